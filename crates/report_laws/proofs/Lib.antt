@@ -10,6 +10,8 @@ mod Sum
 mod Chained
 mod ToAndFro
 mod UnderBounds
+mod Tightened
+mod Finite
 mod Cores
 mod Minimum
 mod Boxed

@@ -150,17 +150,17 @@ falls_back (Some a) None h k = absurd h
 falls_back (Some a) (Some b) h k = let same : b ≡ a = grind (arith, ints, h, k) in ap Some same
 
 -- no bound of the first is loosened in the second
-record AreNoLooser (g h : Grid) : Type 0 where
-  count : length g.columns ≤ length h.columns
-  lower : (i : ℕ) → i < length g.columns → StaysOrRises (column_at g i).lower (column_at h i).lower
-  upper : (i : ℕ) → i < length g.columns → StaysOrFalls (column_at g i).upper (column_at h i).upper
+pub record AreNoLooser (g h : Grid) : Type 0 where
+  pub count : length g.columns ≤ length h.columns
+  pub lower : (i : ℕ) → i < length g.columns → StaysOrRises (column_at g i).lower (column_at h i).lower
+  pub upper : (i : ℕ) → i < length g.columns → StaysOrFalls (column_at g i).upper (column_at h i).upper
 
-bounds_with : (f : ℕ → Ratio) (i : ℕ) (cs : List Column) (j : ℕ) → ((col (with_values f i cs) j).lower ≡ (col cs j).lower) × ((col (with_values f i cs) j).upper ≡ (col cs j).upper)
+pub bounds_with : (f : ℕ → Ratio) (i : ℕ) (cs : List Column) (j : ℕ) → ((col (with_values f i cs) j).lower ≡ (col cs j).lower) × ((col (with_values f i cs) j).upper ≡ (col cs j).upper)
 bounds_with f i [] j = (refl, refl)
 bounds_with f i (c ∷ cs) zero = (refl, refl)
 bounds_with f i (c ∷ cs) (suc j) = bounds_with f (i + 1) cs j
 
-no_looser : (g h : Grid) → ComesFrom g h → AreNoLooser g h
+pub no_looser : (g h : Grid) → ComesFrom g h → AreNoLooser g h
 no_looser g h begins = record { count = omega arith; lower = λ i lt. (stands (column_at g i).lower).0; upper = λ i lt. (stands (column_at g i).upper).1 }
 no_looser g l (taken h k c t) =
     let b : AreNoLooser g h = no_looser g h c in
@@ -304,46 +304,58 @@ module _ (g : Grid) (settled : IsSettledTo g (length g.columns)) where
 -- ---- one run
 
 -- so many pivots from the grid on
-record IsRunOf (n : ℕ) (g : Grid) : Type 0 where
-  steps : List Step
-  end : Grid
-  runs : Runs g steps end
-  count : pivots steps ≡ n
+pub record IsRunOf (n : ℕ) (g : Grid) : Type 0 where
+  pub steps : List Step
+  pub end : Grid
+  pub runs : Runs g steps end
+  pub count : pivots steps ≡ n
 
-module _ (bounds : List Bounds) (sums : List (List Summand)) (B : Bounding) where
-  law_of : (is : ℕ → Bool) (l : Line) (p : IsPivotIn sums B is l) → IsLawful p.grid
+module _ (sums : List (List Summand)) (B : Bounding) where
+  pub law_of : (is : ℕ → Bool) (l : Line) (p : IsPivotIn sums B is l) → IsLawful p.grid
   law_of is l p = lawful sums B p.grid p.sound p.leaves p.number p.enters p.next
 
   -- the next pivot begins with what this one left
-  next_grid : (is : ℕ → Bool) (l m : Line) (p : IsPivotIn sums B is l) (q : IsPivotIn sums B (exchanged l is) m) → bounds_of p.grid ≡ bounds → bounds_of q.grid ≡ bounds → ComesFrom (left_by p) q.grid
-      → q.grid ≡ left_by p
-  next_grid is l m p q e f comes =
+  pub next_grid : (is : ℕ → Bool) (l m : Line) (p : IsPivotIn sums B is l) (q : IsPivotIn sums B (exchanged l is) m) → bounds_of q.grid ≡ bounds_of p.grid → ComesFrom (left_by p) q.grid → q.grid ≡ left_by p
+  next_grid is l m p q e comes =
       let count : length (left_by p).columns ≡ length p.grid.columns = length_with (pivoted_value p.grid p.leaves p.number p.enters) 0 p.grid.columns in
       let settled : IsSettledTo (left_by p) (length (left_by p).columns) =
       subst (λ n. IsSettledTo (left_by p) n) (sym count) (pivots_settle p.grid p.leaves p.number p.enters (law_of is l p) p.next) in
       let left : bounds_of (left_by p) ≡ bounds_of p.grid = bounds_left (pivoted_value p.grid p.leaves p.number p.enters) 0 p.grid.columns in
       let basis : HasBasis (exchanged l is) (left_by p) =
       subst (λ (x : Line). HasBasis (exchanged x is) (left_by p)) (sym p.line) (pivots_exchange p.grid p.leaves p.number p.enters is (law_of is l p) p.next p.basis) in
-      same_grid (left_by p) settled sums B (exchanged l is) q.grid q.sound basis q.basis (same_but (left_by p) settled q.grid comes (bounded_alike (left_by p) q.grid (f ∙ sym e ∙ sym left)))
+      same_grid (left_by p) settled sums B (exchanged l is) q.grid q.sound basis q.basis (same_but (left_by p) settled q.grid comes (bounded_alike (left_by p) q.grid (e ∙ sym left)))
 
+  -- one pivot more in front of a run
+  pub run_before : (is : ℕ → Bool) (l m : Line) (p : IsPivotIn sums B is l) (q : IsPivotIn sums B (exchanged l is) m) → bounds_of q.grid ≡ bounds_of p.grid → ComesFrom (left_by p) q.grid
+      → (n : ℕ) → IsRunOf n q.grid → IsRunOf (suc n) p.grid
+  run_before is l m p q e comes n r = record {
+    steps = pivot p.leaves p.number p.enters ∷ r.steps;
+    end = r.end;
+    runs = (p.next, subst (λ g. Runs g r.steps r.end) (next_grid is l m p q e comes) r.runs);
+    count = ap suc r.count;
+  }
+
+  pub run_of_one : (is : ℕ → Bool) (l : Line) (p : IsPivotIn sums B is l) → IsRunOf 1 p.grid
+  run_of_one is l p = record { steps = pivot p.leaves p.number p.enters ∷ []; end = left_by p; runs = (p.next, refl); count = refl }
+
+module _ (bounds : List Bounds) (sums : List (List Summand)) (B : Bounding) where
   one_run : (n : ℕ) (is : ℕ → Bool) (here : Option Grid) (l : Line) (us : List Spent) (c : AreChained sums B is here (Pivot l ∷ us)) → StayUnder bounds sums B (suc n) is here (Pivot l ∷ us) c → IsRunOf (suc n) c.0.grid
-  one_run zero is here l us c s = record { steps = pivot c.0.leaves c.0.number c.0.enters ∷ []; end = left_by c.0; runs = (c.0.next, refl); count = refl }
+  one_run zero is here l us c s = run_of_one sums B is l c.0
   one_run (suc n) is here l [] c s = absurd s.1
   one_run (suc n) is here l (Learnt d ∷ us) c s = absurd s.1
   one_run (suc n) is here l (Numbered a ∷ us) c s = absurd s.1
   one_run (suc n) is here l (Pivot m ∷ us) c s =
-      let rest : IsRunOf (suc n) c.2.0.grid = one_run n (exchanged l is) (Some (left_by c.0)) m us c.2 s.1 in
-      let same : c.2.0.grid ≡ left_by c.0 = next_grid is l m c.0 c.2.0 s.0 s.1.0 c.2.1 in
-      record {
-        steps = pivot c.0.leaves c.0.number c.0.enters ∷ rest.steps;
-        end = rest.end;
-        runs = (c.0.next, subst (λ g. Runs g rest.steps rest.end) same rest.runs);
-        count = ap suc rest.count;
-      }
+      run_before sums B is l m c.0 c.2.0 (s.1.0 ∙ sym s.0) c.2.1 (suc n) (one_run n (exchanged l is) (Some (left_by c.0)) m us c.2 s.1)
 
-power : (n : ℕ) → 0 < 3 ^ n
+pub power : (n : ℕ) → 0 < 3 ^ n
 power zero = omega arith
 power (suc n) = let h = power n in omega (arith, h, pow-suc 3 n)
+
+-- a run that begins with a pivot is short
+pub run_is_short : (sums : List (List Summand)) (B : Bounding) (is : ℕ → Bool) (l : Line) (p : IsPivotIn sums B is l) (n : ℕ) → IsRunOf n p.grid → n < 3 ^ length p.grid.columns
+run_is_short sums B is l p n r =
+    let law : IsLawful p.grid = law_of sums B is l p in
+    subst (λ m. m < 3 ^ length p.grid.columns) r.count (runs_are_short p.grid r.end r.steps law.grid law.pending law.meets law.uncrossed r.runs)
 
 pub pivots_under_bounds : PivotsUnderBoundsAreFew
 pivots_under_bounds ts frames branches bounds sums zero is here us c s = power (length bounds)
@@ -352,8 +364,5 @@ pivots_under_bounds ts frames branches bounds sums (suc n) is here (Learnt d ∷
 pivots_under_bounds ts frames branches bounds sums (suc n) is here (Numbered a ∷ us) c s = absurd s
 pivots_under_bounds ts frames branches bounds sums (suc n) is here (Pivot l ∷ us) c s =
     let B : Bounding = IsBoundOf (IsCheckAtom ts frames branches) in
-    let r : IsRunOf (suc n) c.0.grid = one_run bounds sums B n is here l us c s in
-    let law : IsLawful c.0.grid = law_of bounds sums B is l c.0 in
-    let short : pivots r.steps < 3 ^ length c.0.grid.columns = runs_are_short c.0.grid r.end r.steps law.grid law.pending law.meets law.uncrossed r.runs in
     let count : length c.0.grid.columns ≡ length bounds = sym (length-map c.0.grid.columns column_bounds) ∙ ap (λ (bs : List Bounds). length bs) s.0 in
-    subst (λ m. suc n < 3 ^ m) count (subst (λ m. m < 3 ^ length c.0.grid.columns) r.count short)
+    subst (λ m. suc n < 3 ^ m) count (run_is_short sums B is l c.0 (suc n) (one_run bounds sums B n is here l us c s))
