@@ -31,7 +31,7 @@ use Rattle.search_port.specs.Spending.{Spending}
 use Rattle.search_port.specs.Valid.{FollowsAt, FollowsAsWritten}
 use Rattle.search_port.specs.Forcing.{ForcesByNumbers, ForcesInTurn}
 use Rattle.search_port.specs.Calls.{IsNoPivot, numbers}
-use Rattle.search_port.specs.Pivots.{AreBasic, ArePivots, KeepsPivots, AreChained as AreChainedSpent}
+use Rattle.search_port.specs.Pivots.{AreBasic, ArePivots, AreChained as AreChainedSpent}
 use Rattle.search_port.specs.declared.shown.Showing.{Showing}
 use Rattle.search_port.specs.declared.budget.Spent.{Spent}
 use Rattle.search_port.specs.declared.budget.Spent.TheVariants.{Learnt, Numbered, Pivot}
@@ -41,7 +41,7 @@ use Rattle.check_atoms.specs.Laws.{IsSameOfNoInts}
 use Rattle.first_clauses.specs.PartClausesFirst.{ForcesParts, IsAsserted, IsForced, written_literal}
 use Rattle.first_clauses.specs.CheckClausesFirst.{reading_of, IsFirst}
 use Rattle.cdcl_core.specs.Search.{literal_lists}
-use Rattle.cdcl_core.specs.Turns.{AreNew, IsShown, IsOfTheory, Searches}
+use Rattle.cdcl_core.specs.Turns.{AreNew, ChainsPivots, IsShown, IsOfTheory, Searches}
 use Rattle.worker.specs.Shown.{HasStackAtoms, unit_of, IsOfNumbers, ShowsUnits}
 use Rattle.search_port.proofs.Forcing.{Split, all_of, split}
 use Rattle.worker.proofs.Lists.{IsAfter, in_order, at_any, first_or_later, front_in, in_middle}
@@ -251,7 +251,7 @@ has_number (Numbered n ∷ us) m h =
 
 module _ (w : ℕ) (forgets : Bool) (of : IsOfWorker w forgets) (laws : Laws) (s : Stack) (stored new : Stored) (lawful : IsLawful s) (limit : ℤ) (t u : TheoryState) (b c : Spending) (first : IsFirst s t.reading.table stored)
     (all : HasStackAtoms s t.reading.table) (begins : t.reading ≡ reading_of s t.reading.table) (unpivoted : ArePivots t []) (budget : IsBudget limit forgets b)
-    (run : Searches forgets stored new t u b c) (kept : KeepsPivots t u b c) where
+    (run : Searches forgets stored new t u b c) (chains : ChainsPivots t u b c) where
   abbrev more : List Atom
   more = run.turns.grown.more
 
@@ -277,7 +277,7 @@ module _ (w : ℕ) (forgets : Bool) (of : IsOfWorker w forgets) (laws : Laws) (s
 
   are_pivots : (v : Bool) → is_unlimited limit ≡ v → IsPivotList v
   are_pivots true e = run.turns.spends.no_pivots (budget.keeps ∙ ap not e) (subst (λ (us : List Spent). All IsNoPivot us) (sym budget.units) (All-nil IsNoPivot))
-  are_pivots false e = kept (budget.keeps ∙ ap not e) (subst (λ (us : List Spent). ArePivots t us) (sym budget.units) unpivoted)
+  are_pivots false e = chains (budget.counts ∙ ap (λ v. not v || forgets) e) (budget.keeps ∙ ap not e) (subst (λ (us : List Spent). ArePivots t us) (sym budget.units) unpivoted)
 
   module _ (x : Showing) (shown : IsShowing (by_levels s u) x) where
     last : IsLast s x.branches stored u.reading
