@@ -1,8 +1,7 @@
 -- What adding clauses keeps, and what a turn that adds them leaves.
-use Rattle.std.specs.Prelude.{nat_le, MatchBool, Result, Ok, Err, ⊤}
-use Rattle.std.proofs.Common.{◌≡◌, ℕ, ◌+◌, ◌<◌, ◌≤◌, Bool, true, false, List, [], ◌∷◌, ◌++◌, All, Contains, length, ap, sym, subst, ◌∙◌, refl, inl, inr, ◌⊎◌, arith}
+use Rattle.std.specs.Prelude.{nat_le, MatchBool, Result, Ok, Err, OnOk, OnErr, ⊤}
+use Rattle.std.proofs.Common.{◌≡◌, ℕ, ◌+◌, ◌<◌, ◌≤◌, Bool, true, false, List, [], ◌∷◌, ◌++◌, length, ap, sym, subst, ◌∙◌, refl, inl, inr, arith}
 use Rattle.std.proofs.lemmas.List.{length-append}
-use Rattle.std.proofs.lemmas.List.Elements.{All-contains}
 use Rattle.literals.specs.Signed.{Signed, opposite}
 use Rattle.smt_meaning.specs.Forced.{Forces}
 use Rattle.clause_store.specs.Stored.{Kept, Stored}
@@ -20,10 +19,13 @@ use Rattle.cdcl_core.specs.declared.put.Halt.{Halt}
 use Rattle.cdcl_core.specs.declared.put.Halt.TheVariants.{False as HaltFalse, Ended as HaltEnded}
 use Rattle.cdcl_core.specs.declared.turn.Turn.{Turn}
 use Rattle.cdcl_core.specs.declared.turn.Turn.TheVariants.{GoOn, Spent as SpentTurn, Full, False, Ended}
+use Rattle.cdcl_core.specs.declared.hook.Between.TheVariants.{Stop}
+use Rattle.cdcl_core.specs.declared.solve.Outcome.{Outcome}
+use Rattle.cdcl_core.specs.declared.solve.Outcome.TheVariants.{Full as OutcomeFull, False as OutcomeFalse, Ended as OutcomeEnded}
 use Rattle.cdcl_core.specs.Search.{AreAmong, GainsClause, HasClause, HasSame, HasSameLiterals, IsAddable, IsNewTo, Stands, literal_lists}
-use Rattle.cdcl_core.specs.Turns.{Adds, ChainsPivots, EndsPut, GainsBy, GainsOne, HaltedBy, HaltsBy, HasLeapt, IsAccounted, IsPartly, PaidBy, PaidLeaves, PivotsAdded, PivotsBy, PutsDown, PutsOne, TurnBy, TurnLeaves, Turns, most_units}
+use Rattle.cdcl_core.specs.Turns.{Adds, ChainsPivots, EndsEarly, EndsPut, EndsSearch, GivenBy, GainsBy, GainsOne, HaltedBy, HaltsBy, HasLeapt, IsAccounted, IsDistinct, IsPartly, PaidLeaves, PausedBy, PivotsAdded, PivotsAtEnd, PivotsBy, PivotsHeard, PutsDown, PutsOne, TurnBy, TurnLeaves, Turns, most_units}
 use Rattle.cdcl_core.specs.Work.{units_left}
-use Rattle.cdcl_core.proofs.Gains.{among-both, gains-among}
+use Rattle.cdcl_core.proofs.Gains.{among-both}
 use Rattle.cdcl_core.proofs.Moves.{Called, by-after, inserted, known-atoms, leaps, paid-by, partly, put-turn, turns-both}
 use Rattle.cdcl_core.proofs.Pivots.{chains-both, chains-same, ends-learnt, pivots-after, units-learnt}
 
@@ -88,7 +90,7 @@ adds-known old new t b within h same = record { turns = known-atoms old new t b 
 pub adds-inserted : (old new : Stored) (t u : TheoryState) (b : Spending) → length b.units ≤ b.limit → Stands new u → u.reading ≡ t.reading → AreAmong old.clauses new.clauses → Adds old new t u b b
 adds-inserted old new t u b within h e among = record { turns = inserted old new t u b within h e among; reading = e; puts = inl (partly-same b) }
 
-gains-short : (v : Bool) (b c : Spending) (clause : Lemma) → MatchBool v (c.short ≡ b.short ++ clause ∷ []) (c.short ≡ b.short) → GainsOne b.short c.short
+pub gains-short : (v : Bool) (b c : Spending) (clause : Lemma) → MatchBool v (c.short ≡ b.short ++ clause ∷ []) (c.short ≡ b.short) → GainsOne b.short c.short
 gains-short true b c clause e = inr (clause, e)
 gains-short false b c clause e = inl e
 
@@ -141,6 +143,9 @@ over-same n ls ms e o = record { within = λ l c. o.within l (e.there l c); no_p
 
 pub new-same : (clauses : List Kept) (ls ms : List Signed) → HasSameLiterals ms ls → IsNewTo clauses ls → IsNewTo clauses ms
 new-same clauses ls ms e n k c s = n k c record { there = λ l a. e.there l (s.there l a); back = λ l a. s.back l (e.back l a) }
+
+pub has-distinct : (clauses : List Kept) (c d : Lemma) → IsDistinct c d → HasClause clauses d.literals → HasSame clauses c.literals
+has-distinct clauses c d h has = record { kept = has.kept; among = has.among; literals = subst (λ (xs : List Signed). HasSameLiterals xs c.literals) (sym has.literals) h.literals }
 
 pub leaps-same : (old new : Stored) (t : TheoryState) (b c : Spending) (ls : List Signed) → Stands old t → units_left c ≤ units_left b → AreAmong old.clauses new.clauses → HasSame new.clauses ls → IsNewTo old.clauses ls → IsOver (length t.reading.table) ls
     → HasLeapt old new t b c
@@ -209,3 +214,80 @@ paid-after s new t u v b c d r k some one h =
 -- or where nothing more is done
 pub called-leaves : (s : Stored) (t u : TheoryState) (b c : Spending) (r : Turn) → Called s t u b c → TurnBy s s t u b c r → PivotsBy t u b c r → length c.units ≤ length b.units + most_units r → TurnLeaves AreAmong s s t u b c r
 called-leaves s t u b c r k by pivots most = record { turns = k.turns; by = by; pivots = pivots; most = most; gains = gains-same r b.short c.short k.short }
+
+pub paused-pivots : (t u : TheoryState) (b c : Spending) (r : Turn) → PausedBy u.reading c r → ChainsPivots t u b c → PivotsBy t u b c r
+paused-pivots t u b c GoOn p h = absurd p
+paused-pivots t u b c SpentTurn p h = h
+paused-pivots t u b c (Full tables) p h = absurd p
+paused-pivots t u b c (False level) p h = absurd p
+paused-pivots t u b c (Ended Units) p h = h
+paused-pivots t u b c (Ended Memory) p h = tt
+paused-pivots t u b c (Ended (Cancelled w)) p h = tt
+
+pub early-pivots : (t u : TheoryState) (b c : Spending) (cause : Cause) → EndsEarly u.reading cause → PivotsBy t u b c (Ended cause)
+early-pivots t u b c Units e = absurd e
+early-pivots t u b c Memory e = tt
+early-pivots t u b c (Cancelled w) e = absurd e
+
+pub ended-pivots : (old new : Stored) (t u : TheoryState) (b c : Spending) (cause : Cause) → EndsPut old new t u b c cause → PivotsBy t u b c (Ended cause)
+ended-pivots old new t u b c Units x = chains-same t u b c x.1 (ap (λ (d : Spending). d.units) x.2)
+ended-pivots old new t u b c Memory x = tt
+ended-pivots old new t u b c (Cancelled w) x = absurd x
+
+-- ---- where the search goes on, or ends
+
+pub puts-some : (b c : Spending) → length b.units < length c.units → PutsOne b c → PutsDown b c
+puts-some b c lt (inl p) = let e : length c.units ≡ length b.units = ap (λ (us : List SpentUnit). length us) p.units in absurd (omega arith)
+puts-some b c lt (inr p) = p
+
+pub puts-nothing : (b c : Spending) → length c.units ≤ length b.units → PutsOne b c → IsPartly b c
+puts-nothing b c le (inl p) = p
+puts-nothing b c le (inr p) = let e : length c.units ≡ length b.units + 1 = p.one in absurd (omega arith)
+
+pub end-after : (t u v : TheoryState) (b c d : Spending) (o : Outcome) → c.counts_learnt ≡ b.counts_learnt → c.keeps_lines ≡ b.keeps_lines → ChainsPivots t u b c → PivotsAtEnd u v c d o → PivotsAtEnd t v b d o
+end-after t u v b c d (OutcomeFull tables) same lines h k = tt
+end-after t u v b c d (OutcomeFalse level) same lines h k = tt
+end-after t u v b c d (OutcomeEnded Units) same lines h k = chains-both t u v b c d same lines h k
+end-after t u v b c d (OutcomeEnded Memory) same lines h k = tt
+end-after t u v b c d (OutcomeEnded (Cancelled w)) same lines h k = tt
+
+pub heard-after : (t u v : TheoryState) (b c d : Spending) (r : Result ⊤ Outcome) → c.counts_learnt ≡ b.counts_learnt → c.keeps_lines ≡ b.keeps_lines → ChainsPivots t u b c → PivotsHeard u v c d r → PivotsHeard t v b d r
+heard-after t u v b c d (Ok x) same lines h k = chains-both t u v b c d same lines h k
+heard-after t u v b c d (Err o) same lines h k = end-after t u v b c d o same lines h k
+
+pub end-of-turn : (t u : TheoryState) (b c : Spending) (cause : Cause) → PivotsBy t u b c (Ended cause) → PivotsAtEnd t u b c (OutcomeEnded cause)
+end-of-turn t u b c Units h = h
+end-of-turn t u b c Memory h = tt
+end-of-turn t u b c (Cancelled w) h = tt
+
+pub end-of-adding : (t u : TheoryState) (b c : Spending) (cause : Cause) → PivotsAdded t u b c (Err (HaltEnded cause)) → PivotsAtEnd t u b c (OutcomeEnded cause)
+end-of-adding t u b c Units h = h
+end-of-adding t u b c Memory h = tt
+end-of-adding t u b c (Cancelled w) h = tt
+
+pub search-of-adding : (r : Reading) (b : Spending) (stopped : Cause → Type 0) (cause : Cause) → HaltsBy r b (HaltEnded cause) → EndsSearch r b stopped cause
+search-of-adding r b stopped Units h = h
+search-of-adding r b stopped Memory h = tt
+search-of-adding r b stopped (Cancelled w) h = absurd h
+
+pub stop-pivots : (r : Reading) (t u : TheoryState) (b c : Spending) (stopped : Cause → Type 0) (cause : Cause) → GivenBy r stopped (Stop cause) → PivotsAtEnd t u b c (OutcomeEnded cause)
+stop-pivots r t u b c stopped Units h = absurd h
+stop-pivots r t u b c stopped Memory h = tt
+stop-pivots r t u b c stopped (Cancelled w) h = tt
+
+pub stop-ends : (r q : Reading) (b : Spending) (stopped : Cause → Type 0) (cause : Cause) → GivenBy r stopped (Stop cause) → EndsSearch q b stopped cause
+stop-ends r q b stopped Units h = absurd h
+stop-ends r q b stopped Memory h = tt
+stop-ends r q b stopped (Cancelled w) h = h
+
+pub on-ok : {A E : Type 0} (P : Type 0) (r : Result A E) → P → OnOk r P
+on-ok P (Ok x) p = p
+on-ok P (Err x) p = tt
+
+pub on-err : {A E : Type 0} (P : Type 0) (r : Result A E) → P → OnErr r P
+on-err P (Ok x) p = tt
+on-err P (Err x) p = p
+
+pub ok-map : {A E : Type 0} (P Q : Type 0) (r : Result A E) → (P → Q) → OnOk r P → OnOk r Q
+ok-map P Q (Ok x) f p = f p
+ok-map P Q (Err x) f p = tt

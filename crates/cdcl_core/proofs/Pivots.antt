@@ -1,6 +1,6 @@
 -- The pivots among the units where the theory makes none.
-use Rattle.std.proofs.Common.{◌≡◌, ℕ, ◌<◌, zero, suc, MatchBool, Bool, true, false, List, [], ◌∷◌, ◌++◌, map, get_or, Contains, Option, Some, None, sym, ap, subst, ◌∙◌, refl, arith}
-use Rattle.std.specs.Prelude.{ℤ, IfSome, Result, Ok, Err}
+use Rattle.std.proofs.Common.{◌≡◌, ℕ, zero, suc, MatchBool, Bool, true, false, List, [], ◌∷◌, ◌++◌, map, get_or, Contains, Option, Some, None, sym, ap, subst, ◌∙◌, refl}
+use Rattle.std.specs.Prelude.{ℤ, IfSome}
 use Rattle.std.proofs.lemmas.List.Elements.{Contains-append_left}
 use Rattle.fraction128.specs.declared.Summand.{Summand}
 use Rattle.fraction128.specs.declared.Side.{Side}
@@ -16,9 +16,8 @@ use Rattle.smt_meaning.specs.declared.clauses.Atom.{Atom}
 use Rattle.smt_meaning.specs.CheckAtoms.{IsBoundOf}
 use Rattle.search_port.specs.State.{Reading, TheoryState, Variables}
 use Rattle.search_port.specs.Spending.{Spending}
-use Rattle.search_port.specs.Pivots.{pivot_lines, AreBasic, AreChained, ArePivots, EndsOtherwise, IsOfLog, IsSaid, KeepsPivots}
+use Rattle.search_port.specs.Pivots.{pivot_lines, AreBasic, AreChained, ArePivots, EndsOtherwise, IsOfLog, IsSaid}
 use Rattle.search_port.specs.declared.budget.Lemma.{Lemma}
-use Rattle.search_port.specs.declared.budget.Cause.{Cause}
 use Rattle.search_port.specs.declared.budget.Cause.TheVariants.{Units, Memory, Cancelled}
 use Rattle.search_port.specs.declared.budget.Spent.{Spent}
 use Rattle.search_port.specs.declared.budget.Spent.TheVariants.{Learnt, Numbered, Pivot}

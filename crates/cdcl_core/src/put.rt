@@ -145,11 +145,13 @@ fn add_own<T: Theory>(
     ensures halts { IfErr result (HaltsBy (T.state theory.new).reading budget.new) }
 {
     let _steps = store.steps();
-    if clause.literals.len() == 0 {
+    let size = clause.literals.len();
+    if size == 0 {
         return Err(Halt::False(clause.level));
     }
     let depth = quiet_below(store, clause.literals.as_slice());
-    if depth < store.depth() {
+    let top = store.depth();
+    if depth < top {
         return match put_down(alloc, order, store, theory, budget, clause, depth) {
             Ok(()) => Ok(()),
             Err(cause) => Err(Halt::Ended(cause)),
@@ -235,7 +237,10 @@ pub fn add_all<T: Theory>(
 {
     let top = store.depth();
     for clause in clauses.into_vec() {
-        add_one(alloc, order, store, theory, budget, clause, top)?;
+        match add_one(alloc, order, store, theory, budget, clause, top) {
+            Ok(()) => {}
+            Err(halt) => return Err(halt),
+        }
     }
     Ok(())
 }
