@@ -10,8 +10,7 @@ use Rattle.smt_meaning.specs.Forced.{Forces}
 use Rattle.conflict_learn.specs.Learning.{HaveOwnAtoms}
 use Rattle.conflict_learn.proofs.NotForced.{IsConsistent, all_of, reached_on}
 use Rattle.conflict_learn.proofs.Concluding.{decidable}
-use Rattle.cdcl_core.specs.Search.{IsNarrow, IsNewTo, IsSearched, literal_lists}
-use Rattle.cdcl_core.proofs.New.{AllQuiet, new-false, new-unit}
+use Rattle.cdcl_core.specs.Search.{IsNarrow, IsSearched, literal_lists}
 use Rattle.cdcl_core.proofs.Spans.{apart-up-to}
 
 -- where a literal stands
@@ -67,13 +66,3 @@ pub unforced-narrow : (s : Stored) (d : ℕ) (ls : List Signed) → ((l : Signed
 unforced-narrow s d ls apart h lt own narrow =
     unforced-on (up_to d s.trail.steps) (literal_lists s.clauses) ls (apart-up-to s.trail.steps d apart)
     (All-map (IsQuiet (up_to d s.trail.steps)) (λ (x : Kept). x.literals) s.clauses (h.quiet d lt)) own narrow
-
--- and it isn't kept
-pub new-narrow : (steps : List Step) (clauses : List Kept) (ls : List Signed) → AllQuiet steps clauses → IsNarrow steps ls → IsNewTo clauses ls
-new-narrow steps clauses ls quiet h = elim (decidable steps h.literal) [
-  | inl t ↦ absurd (h.untrue t)
-  | inr r ↦ elim r [
-    | inl f ↦ new-false steps clauses ls quiet (λ k d lt. elim (h.others k d lt) [ inl e ↦ subst (IsFalseOn steps) (sym e) f | inr g ↦ g ])
-    | inr o ↦ new-unit steps clauses ls h.literal quiet o (h.stands, h.others)
-  ]
-]

@@ -1,7 +1,8 @@
 //! The search.
-ghost use Rattle.std.specs.Prelude.{◌≡◌, [], false};
+ghost use Rattle.std.specs.Prelude.{◌≡◌, [], false, IfSome};
 ghost use Rattle.smt_meaning.specs.Kinds.{has_no_integers};
 ghost use Rattle.fraction128.specs.Lines.{first_basis};
+ghost use Rattle.fraction128.specs.Chain.{unbounded};
 ghost use Rattle.search_port.specs.Pivots.{AreBasic};
 ghost use Rattle.cdcl_core.specs.Search.{AreAgreed};
 ghost use Rattle.smt_laws.specs.Flat.{flat};
@@ -57,6 +58,7 @@ pub(crate) fn search<T: Shown, H: Hook<T>>(
     requires reading { (T.state theory).reading ≡ reading_of stack.now (T.state theory).reading.table }
     requires untold { (T.state theory).log ≡ [] }
     requires basis { AreBasic (first_basis (T.state theory).variables.sums) (T.state theory).variables }
+    requires unbounded { IfSome (T.state theory).variables.grid (λ g. unbounded g ≡ g) }
     requires agreed { AreAgreed T.agrees (T.state theory).reading store.clauses }
     requires all { HasStackAtoms stack.now (T.state theory).reading.table }
     ensures found { IsFound stack.now settings.now.units worker (H.stopped hook.new) result }
