@@ -3,9 +3,8 @@ use Rattle.std.proofs.Common.{◌≡◌, ℕ, ◌+◌, ◌-◌, ◌<◌, ◌≤�
 use Rattle.std.specs.Int.{w128}
 use Rattle.std.proofs.lemmas.Int.{to_z-of_z}
 use Rattle.std.specs.Prelude.{int_lt}
-use Rattle.std.proofs.lemmas.Bool.{cases_lt}
+use Rattle.std.proofs.lemmas.Bool.{cases_lt, cond-false, cond-true}
 use Rattle.std.proofs.lemmas.List.{take_more, drop_all}
-use Rattle.equality_clauses.proofs.OnceLemmas.{chosen, passed}
 use Rattle.bound_clauses.specs.declared.axioms.Bound.{Bound}
 use Rattle.bound_clauses.specs.declared.axioms.Link.{Link}
 use Rattle.bound_clauses.specs.Chain.{of_sum, of_sums, of_negation, of_negations, merged}
@@ -25,10 +24,10 @@ merged-nil [] = refl
 merged-nil (x ∷ xs) = ap (λ ls. x ∷ ls) (merged-nil xs)
 
 pub merged-second : (x y : Link) (xs ys : List Link) → int_lt y.threshold x.threshold ≡ true → merged (x ∷ xs) (y ∷ ys) ≡ y ∷ merged (x ∷ xs) ys
-merged-second x y xs ys h = chosen (int_lt y.threshold x.threshold) (y ∷ merged (x ∷ xs) ys) (x ∷ merged xs (y ∷ ys)) h
+merged-second x y xs ys h = cond-true (int_lt y.threshold x.threshold) (y ∷ merged (x ∷ xs) ys) (x ∷ merged xs (y ∷ ys)) h
 
 pub merged-first : (x y : Link) (xs ys : List Link) → int_lt y.threshold x.threshold ≡ false → merged (x ∷ xs) (y ∷ ys) ≡ x ∷ merged xs (y ∷ ys)
-merged-first x y xs ys h = passed (int_lt y.threshold x.threshold) (y ∷ merged (x ∷ xs) ys) (x ∷ merged xs (y ∷ ys)) h
+merged-first x y xs ys h = cond-false (int_lt y.threshold x.threshold) (y ∷ merged (x ∷ xs) ys) (x ∷ merged xs (y ∷ ys)) h
 
 -- the bits of numbers that fit, read back
 pub read_back : (test : ℤ → ℤ → Bool) (a b : ℤ) (result : Bool) → SFits w128 a → SFits w128 b → test (to_z w128 (of_z w128 a)) (to_z w128 (of_z w128 b)) ≡ result → test a b ≡ result

@@ -1,8 +1,8 @@
 -- Numbers each once.
-use Rattle.std.proofs.Common.{◌≡◌, ◌≢◌, ℕ, zero, suc, ◌<◌, ◌≤◌, Bool, true, false, nat_eq, ◌||◌, List, [], ◌∷◌, ◌++◌, length, get_or, All, Contains, refl, sym, ap, subst, ◌∙◌, inl, inr, arith, eq-eqb}
-use Rattle.std.specs.Prelude.{◌⊎◌, if◌then◌else◌}
-use Rattle.std.proofs.lemmas.Bool.{cases_lt, eqb-true, ne_eqb}
-use Rattle.std.proofs.lemmas.List.{length_push, get_or_push, get_or_append_left}
+use Rattle.std.proofs.Common.{◌≡◌, ◌≢◌, ℕ, zero, suc, ◌<◌, ◌≤◌, Bool, true, false, nat_eq, ◌||◌, List, [], ◌∷◌, ◌++◌, length, get_or, take, All, Contains, refl, sym, ap, subst, ◌∙◌, inl, inr, arith, eq-eqb}
+use Rattle.std.specs.Prelude.{◌⊎◌}
+use Rattle.std.proofs.lemmas.Bool.{cases_lt, cond-false, cond-true, eqb-true, ne_eqb}
+use Rattle.std.proofs.lemmas.List.{length-append, take_all, length_push, get_or_push, get_or_append_left}
 use Rattle.std.proofs.lemmas.List.Elements.{All-push, Contains-append_right}
 use Rattle.equality_clauses.specs.Once.{is_in, taken, taken_all, once, IsPlaced}
 
@@ -34,6 +34,15 @@ in_contains (m ∷ ms) n h = by (nat_eq n m) refl h (in_contains ms n)
 
 pub placed_none : (places : List ℕ) → IsPlaced places []
 placed_none places = record { within = λ k h. absurd (omega arith); at = λ k h. absurd (omega arith) }
+
+placed_longer : (places more kept : List ℕ) → IsPlaced places kept → IsPlaced (places ++ more) kept
+placed_longer places more kept p = record {
+  within = λ k h. omega (arith, p.within k h, length-append places more);
+  at = λ k h. get_or_append_left places more 0 (get_or kept k 0) (p.within k h) ∙ p.at k h;
+}
+
+pub placed_resized : (places places' more kept : List ℕ) (n : ℕ) → IsPlaced places kept → length places ≤ n → places' ≡ take n places ++ more → IsPlaced places' kept
+placed_resized places places' more kept n p short e = subst (λ ps. IsPlaced ps kept) (sym (e ∙ ap (λ ps. ps ++ more) (take_all n places short))) (placed_longer places more kept p)
 
 -- a number that isn't where its place says isn't kept
 pub not_there : (places kept : List ℕ) (n : ℕ) → IsPlaced places kept → (n < length places → get_or places n 0 < length kept → get_or kept (get_or places n 0) 0 ≢ n) → is_in n kept ≡ false
@@ -67,19 +76,11 @@ placed_push places places' kept kept' n p new short size here others e = subst (
 
 -- ---- what is kept
 
-pub chosen : {A : Type 0} (b : Bool) (x y : A) → b ≡ true → (if b then x else y) ≡ x
-chosen true x y h = refl
-chosen false x y h = cc
-
-pub passed : {A : Type 0} (b : Bool) (x y : A) → b ≡ false → (if b then x else y) ≡ y
-passed true x y h = cc
-passed false x y h = refl
-
 pub taken_old : (kept : List ℕ) (n : ℕ) → is_in n kept ≡ true → taken kept n ≡ kept
-taken_old kept n h = chosen (is_in n kept) kept (kept ++ n ∷ []) h
+taken_old kept n h = cond-true (is_in n kept) kept (kept ++ n ∷ []) h
 
 pub taken_new : (kept : List ℕ) (n : ℕ) → is_in n kept ≡ false → taken kept n ≡ kept ++ n ∷ []
-taken_new kept n h = passed (is_in n kept) kept (kept ++ n ∷ []) h
+taken_new kept n h = cond-false (is_in n kept) kept (kept ++ n ∷ []) h
 
 true_or_false : (b : Bool) → (b ≡ true) ⊎ (b ≡ false)
 true_or_false true = inl refl

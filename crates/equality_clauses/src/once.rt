@@ -18,18 +18,6 @@ fn is_kept(places: &[usize], kept: &[u32], number: u32) -> bool
     kept[place] == number
 }
 
-/// Makes room for the place of a number.
-fn reach(places: &mut Vec<usize>, kept: &[u32], number: usize) -> Result<(), AllocError>
-    requires { IsPlaced places.old.items kept.now }
-    ensures same { IsPlaced places.new.items kept.now }
-    ensures within { OnOk result (number < length places.new.items) }
-{
-    while places.len() <= number {
-        places.push(0)?;
-    }
-    Ok(())
-}
-
 /// Keeps a number that isn't kept.
 fn keep(places: &mut Vec<usize>, kept: &mut Vec<u32>, number: u32) -> Result<(), AllocError>
     requires placed { IsPlaced places.old.items kept.old.items }
@@ -37,8 +25,11 @@ fn keep(places: &mut Vec<usize>, kept: &mut Vec<u32>, number: u32) -> Result<(),
     ensures placed { OnOk result (IsPlaced places.new.items kept.new.items) }
     ensures kept { OnOk result (kept.new.items ≡ kept.old.items ++ number ∷ []) }
 {
-    reach(places, kept, number as usize)?;
-    places[number as usize] = kept.len();
+    let place = number as usize;
+    if places.len() <= place {
+        places.resize(place + 1, 0)?;
+    }
+    places[place] = kept.len();
     kept.push(number)?;
     Ok(())
 }

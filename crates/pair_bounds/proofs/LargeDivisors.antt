@@ -63,25 +63,22 @@ abbrev later : List (Row Tree) → List (Row Tree)
 later [] = []
 later (r ∷ rs) = rs
 
+-- a term and a divisor with their quotient beside them
+with_quotient : (ts : List Tree) (a n q : ℕ) (rows : List (Row Tree)) → (InRange (place_divisor ts (a ∷ n ∷ q ∷ [])) → ⊥)
+    → IsTrue ((is_divisor (tree_at ts n) && tree_eq (tree_at ts q) (quotient_tree (tree_at ts a) (tree_at ts n))) && are_linear (pick ts (a ∷ n ∷ q ∷ [])))
+    → rows_fit ts (always (beyond (tree_at ts a) (place_divisor ts (a ∷ n ∷ q ∷ [])) (tree_at ts q)) (pos 0) ∷ rows) ≡ true → ⊥
+with_quotient ts a n q rows out h =
+    first_outside ts (place_divisor ts (a ∷ n ∷ q ∷ [])) out (tree_at ts a) (tree_at ts q) rows (beside ts (tree_at ts a) (tree_at ts n) (tree_at ts q) (pick ts (a ∷ n ∷ q ∷ [])) h)
+
 by_shape : (ts : List Tree) (o : Operator) (is : List ℕ) → IsTrue (divides o) → IsTrue (is_linear (node (Theory o) (pick ts is))) → (InRange (place_divisor ts is) → ⊥)
     → rows_fit ts (rows_at ts (Theory o) (pick ts is)) ≡ true → ⊥
-by_shape ts Divide [] d h out = none_true _ h
-by_shape ts Divide (a ∷ []) d h out = none_true _ h
 by_shape ts Divide (a ∷ n ∷ []) d h out =
     first_outside ts (place_divisor ts (a ∷ n ∷ [])) out (tree_at ts a) (node (Theory Divide) (pick ts (a ∷ n ∷ []))) (later (rows_at ts (Theory Divide) (pick ts (a ∷ n ∷ [])))) refl
-by_shape ts Divide (a ∷ n ∷ q ∷ is) d h out = none_true _ h
-by_shape ts Modulo [] d h out = none_true _ h
-by_shape ts Modulo (a ∷ []) d h out = none_true _ h
-by_shape ts Modulo (a ∷ n ∷ []) d h out = none_true _ h
-by_shape ts Modulo (a ∷ n ∷ q ∷ []) d h out =
-    first_outside ts (place_divisor ts (a ∷ n ∷ q ∷ [])) out (tree_at ts a) (tree_at ts q) (later (rows_at ts (Theory Modulo) (pick ts (a ∷ n ∷ q ∷ [])))) (beside ts (tree_at ts a) (tree_at ts n) (tree_at ts q) (pick ts (a ∷ n ∷ q ∷ [])) h)
-by_shape ts Modulo (a ∷ n ∷ q ∷ i ∷ is) d h out = none_true _ h
-by_shape ts Divisible [] d h out = none_true _ h
-by_shape ts Divisible (a ∷ []) d h out = none_true _ h
-by_shape ts Divisible (a ∷ n ∷ []) d h out = none_true _ h
-by_shape ts Divisible (a ∷ n ∷ q ∷ []) d h out =
-    first_outside ts (place_divisor ts (a ∷ n ∷ q ∷ [])) out (tree_at ts a) (tree_at ts q) (later (rows_at ts (Theory Divisible) (pick ts (a ∷ n ∷ q ∷ [])))) (beside ts (tree_at ts a) (tree_at ts n) (tree_at ts q) (pick ts (a ∷ n ∷ q ∷ [])) h)
-by_shape ts Divisible (a ∷ n ∷ q ∷ i ∷ is) d h out = none_true _ h
+by_shape ts Modulo (a ∷ n ∷ q ∷ []) d h out = with_quotient ts a n q (later (rows_at ts (Theory Modulo) (pick ts (a ∷ n ∷ q ∷ [])))) out h
+by_shape ts Divisible (a ∷ n ∷ q ∷ []) d h out = with_quotient ts a n q (later (rows_at ts (Theory Divisible) (pick ts (a ∷ n ∷ q ∷ [])))) out h
+by_shape ts Divide is d h out = none_true _ h
+by_shape ts Modulo is d h out = none_true _ h
+by_shape ts Divisible is d h out = none_true _ h
 by_shape ts o is d h out = none_true _ d
 
 pub large_divisor : LargeDivisorLeavesRange

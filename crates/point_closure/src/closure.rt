@@ -100,31 +100,6 @@ impl Closure {
 
     // ---- classes are joined
 
-    /// Joins two classes and their lists; the points with an argument in the one that goes wait to be filed anew.
-    fn join(&mut self, union: Union) -> Result<(), AllocError>
-        requires whole { IsClosure self.old }
-        requires stands { Stands self.old.graph self.old.steps.items (state_of self.old) self.old.pending.items [] 0 }
-        requires union { IsUnion self.old.classes.count self.old.classes.unions union }
-        requires justified { IsJustified self.old.graph self.old.classes.unions self.old.steps.items union }
-        ensures whole { IsClosure self.new }
-        ensures keeps { Keeps self.old self.new }
-        ensures pairs { self.new.pairs.items ≡ self.old.pairs.items }
-        ensures pending { self.new.pending.items ≡ self.old.pending.items }
-        ensures unions { OnOk result (self.new.classes.unions ≡ self.old.classes.unions ++ union ∷ []) }
-        ensures stands { OnOk result (Stands self.new.graph self.new.steps.items (state_of self.new) self.new.pending.items (list_of self.new.uses.changes union.gone) 0) }
-    {
-        join_all(
-            &mut self.classes,
-            &mut self.uses,
-            &mut self.watches,
-            &mut self.weights,
-            &self.pairs,
-            &mut self.met,
-            union,
-        )?;
-        Ok(())
-    }
-
     /// Files the points with an argument in a class that went anew.
     fn refile(&mut self, gone: u32) -> Result<(), AllocError>
         requires whole { IsClosure self.old }
@@ -146,7 +121,7 @@ impl Closure {
         )
     }
 
-    /// Joins two classes and files anew what that changes.
+    /// Joins two classes and their lists, and files anew the points with an argument in the one that goes.
     fn unite(&mut self, union: Union) -> Result<(), AllocError>
         requires whole { IsClosure self.old }
         requires stands { Stands self.old.graph self.old.steps.items (state_of self.old) self.old.pending.items [] 0 }
@@ -159,7 +134,15 @@ impl Closure {
         ensures unions { OnOk result (self.new.classes.unions ≡ self.old.classes.unions ++ union ∷ []) }
         ensures stands { OnOk result (Stands self.new.graph self.new.steps.items (state_of self.new) self.new.pending.items [] 0) }
     {
-        self.join(union)?;
+        join_all(
+            &mut self.classes,
+            &mut self.uses,
+            &mut self.watches,
+            &mut self.weights,
+            &self.pairs,
+            &mut self.met,
+            union,
+        )?;
         self.refile(union.gone)
     }
 
@@ -363,7 +346,6 @@ impl Closure {
     ghost use Rattle.point_closure.specs.Unions.{root_of};
     ghost use Rattle.point_closure.specs.Explained.{Explains, merged};
     ghost use Rattle.point_closure.specs.Sound.{IsPending};
-    ghost use Rattle.point_closure.specs.declared.step.Step.TheVariants.{Merge};
     ghost use Rattle.point_closure.specs.State.{IsAtRest, Watches};
     ghost use Rattle.point_closure.specs.Whole.{IsClosure, IsWhole, Keeps, IsLast, IsWithin, IsOther, AreEqualPairs, state_of};
 
@@ -439,53 +421,15 @@ impl Closure {
         self.pending.push(pending)?;
         Ok(())
     }
-
-    /// Joins two points by the last step.
-    fn merge(&mut self, left: u32, right: u32, index: u32) -> Result<(), AllocError>
-        requires whole { IsClosure self.old }
-        requires last { IsLast self.old.steps.items index (Merge left right) }
-        requires left { left < length self.old.graph }
-        requires right { right < length self.old.graph }
-        requires rest { IsAtRest self.old.graph (take index self.old.steps.items) (state_of self.old) }
-        ensures whole { IsClosure self.new }
-        ensures keeps { Keeps self.old self.new }
-        ensures rest { OnOk result (IsAtRest self.new.graph self.new.steps.items (state_of self.new)) }
-    {
-        self.start(Pending {
-            left,
-            right,
-            reason: Reason::Step(index),
-        })?;
-        self.close()
-    }
 }
 
 impl Closure {
     ghost use Rattle.point_closure.specs.Closure.{Equal};
     ghost use Rattle.point_closure.specs.Unions.{root_of};
-    ghost use Rattle.point_closure.specs.declared.step.Step.TheVariants.{Differ};
     ghost use Rattle.point_closure.specs.Rest.{watch_at};
     ghost use Rattle.point_closure.specs.Explained.{Explains, merged};
     ghost use Rattle.point_closure.specs.State.{IsAtRest};
     ghost use Rattle.point_closure.specs.Whole.{IsClosure, IsWhole, Keeps, IsLast, IsWithin, AreEqualPairs, ArePairsApart, AreStepsApart, IsClash, state_of};
-
-    /// Keeps two points apart by the last step.
-    fn differ(&mut self, left: u32, right: u32, index: u32) -> Result<(), AllocError>
-        requires whole { IsClosure self.old }
-        requires last { IsLast self.old.steps.items index (Differ left right) }
-        requires left { left < length self.old.graph }
-        requires right { right < length self.old.graph }
-        requires rest { IsAtRest self.old.graph (take index self.old.steps.items) (state_of self.old) }
-        ensures whole { IsClosure self.new }
-        ensures keeps { Keeps self.old self.new }
-        ensures rest { OnOk result (IsAtRest self.new.graph self.new.steps.items (state_of self.new)) }
-    {
-        self.add_watch(Watch {
-            left,
-            right,
-            watched: Watched::Step(index),
-        })
-    }
 
     /// Does what the last step says.
     fn apply(&mut self, step: Step, index: u32) -> Result<(), AllocError>
@@ -498,8 +442,19 @@ impl Closure {
         ensures rest { OnOk result (IsAtRest self.new.graph self.new.steps.items (state_of self.new)) }
     {
         match step {
-            Step::Merge(left, right) => self.merge(left, right, index),
-            Step::Differ(left, right) => self.differ(left, right, index),
+            Step::Merge(left, right) => {
+                self.start(Pending {
+                    left,
+                    right,
+                    reason: Reason::Step(index),
+                })?;
+                self.close()
+            }
+            Step::Differ(left, right) => self.add_watch(Watch {
+                left,
+                right,
+                watched: Watched::Step(index),
+            }),
         }
     }
 

@@ -102,36 +102,6 @@ pub struct Explainer {
     told: Marks,
 }
 
-/// Finds the steps whose merges make two points of one class equal.
-fn find(
-    graph: &Graph,
-    classes: &Classes,
-    left: u32,
-    right: u32,
-    goals: &mut Vec<Goal>,
-    told: &mut Marks,
-    steps: &mut Vec<u32>,
-) -> Result<(), AllocError>
-    requires points { length graph.now ≡ classes.now.count }
-    requires earlier { ArePoints graph.now }
-    requires alike { AlikeAreCongruent graph.now classes.now.unions }
-    requires left_within { left < classes.now.count }
-    requires right_within { right < classes.now.count }
-    requires same { root_of classes.now.unions left ≡ root_of classes.now.unions right }
-    ensures { OnOk result ((log : List Step) → StepsAreMerges log classes.now.unions → Explains graph.now log steps.new.items left right) }
-{
-    steps.clear();
-    goals.clear();
-    told.clear(classes.unions())?;
-    goals.push(Goal { left, right })?;
-    'goals: while let Some(goal) = goals.pop() {
-        if goal.left != goal.right {
-            tell(graph, classes, goal, goals, told, steps)?;
-        }
-    }
-    Ok(())
-}
-
 impl Explainer {
     /// Nothing is explained yet. It takes no memory.
     pub fn new(alloc: Global) -> Self {
@@ -159,14 +129,22 @@ impl Explainer {
         requires same { root_of classes.now.unions left ≡ root_of classes.now.unions right }
         ensures { OnOk result ((log : List Step) → StepsAreMerges log classes.now.unions → Explains graph.now log self.new.steps.items left right) }
     {
-        find(
-            graph,
-            classes,
-            left,
-            right,
-            &mut self.goals,
-            &mut self.told,
-            &mut self.steps,
-        )
+        self.steps.clear();
+        self.goals.clear();
+        self.told.clear(classes.unions())?;
+        self.goals.push(Goal { left, right })?;
+        'goals: while let Some(goal) = self.goals.pop() {
+            if goal.left != goal.right {
+                tell(
+                    graph,
+                    classes,
+                    goal,
+                    &mut self.goals,
+                    &mut self.told,
+                    &mut self.steps,
+                )?;
+            }
+        }
+        Ok(())
     }
 }

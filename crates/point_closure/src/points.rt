@@ -73,38 +73,6 @@ fn add_both(
     Ok(())
 }
 
-/// Puts a point into the lists and adds it. An `Err` changes nothing.
-fn add_put(
-    graph: &mut Graph,
-    classes: &mut Classes,
-    uses: &mut Lists,
-    shape: Shape,
-    arguments: &[u32],
-) -> Result<(), AllocError>
-    requires points { length graph.old ≡ classes.old.count }
-    requires earlier { All (λ i. i < length graph.old) arguments.now }
-    requires few { length graph.old < 2 ^ 32 - 1 }
-    requires uses { length graph.old ≤ uses.old.count }
-    ensures count { uses.new.count ≡ uses.old.count }
-    ensures below { OnOk result ((n : ℕ) → length graph.old < n → All (PutsBelow n) uses.old.changes → All (PutsBelow n) uses.new.changes) }
-    ensures begins { OnOk result (Begins uses.old.changes uses.new.changes) }
-    ensures puts { OnOk result (Puts classes.old.unions arguments.now (length graph.old) (length arguments.now) uses.old.changes uses.new.changes) }
-    ensures ok { OnOk result ((graph.new ≡ graph.old ++ record { shape = shape; arguments = arguments.now } ∷ []) × (classes.new ≡ record { count = classes.old.count + 1; unions = classes.old.unions })) }
-    ensures err { OnErr result ((graph.new ≡ graph.old) × (classes.new ≡ classes.old) × (uses.new.changes ≡ uses.old.changes)) }
-{
-    let point = graph.len() as u32;
-    let used = uses.changes();
-    if put_uses(classes, uses, point, arguments).is_err() {
-        uses.undo_to(used);
-        return Err(AllocError);
-    }
-    if add_both(graph, classes, shape, arguments).is_err() {
-        uses.undo_to(used);
-        return Err(AllocError);
-    }
-    Ok(())
-}
-
 /// Adds a point, with a weight and lists for its class. An `Err` changes nothing.
 pub(crate) fn add_point(
     graph: &mut Graph,
@@ -135,5 +103,12 @@ pub(crate) fn add_point(
     reach_weight(weights, count)?;
     reach(uses, count)?;
     reach(watches, count)?;
-    add_put(graph, classes, uses, shape, arguments)
+    let used = uses.changes();
+    if put_uses(classes, uses, count as u32, arguments).is_err()
+        || add_both(graph, classes, shape, arguments).is_err()
+    {
+        uses.undo_to(used);
+        return Err(AllocError);
+    }
+    Ok(())
 }

@@ -1,7 +1,14 @@
 -- The numbers that digits write.
-use Rattle.std.proofs.Common.{Option, Some, ◌≡◌, ℕ, ◌+◌, ◌-◌, ◌*◌, ◌<◌, ◌≤◌, suc, List, [], ◌∷◌, get_or, drop, length, sym, ap, ◌∙◌, arith, Bool, true, false, subst, refl, nat_lt}
+use Rattle.std.proofs.Common.{to_z, of_z, Option, Some, Ok, Err, cond, inl, inr, ◌^◌, ◌≡◌, ℕ, ◌+◌, ◌-◌, ◌*◌, ◌<◌, ◌≤◌, suc, List, [], ◌∷◌, get_or, drop, length, sym, ap, ◌∙◌, arith, Bool, true, false, subst, refl, nat_lt}
 use Rattle.std.proofs.Math.Seq.{drop-cons}
-use Rattle.std.proofs.lemmas.Bool.{le-ltb, lt-ltb}
+use Rattle.std.specs.Prelude.{ℤ, pos}
+use mir.Syntax.{w128}
+use Rattle.std.proofs.lemmas.Bool.{cases_lt, le-ltb, lt-ltb}
+use Rattle.fraction128.specs.Whole.{InRange}
+use Rattle.fraction128.proofs.Integers.{same_bits}
+use Rattle.smt_meaning.specs.declared.refusals.Refusal.{Refusal}
+use Rattle.smt_meaning.specs.declared.refusals.Refusal.TheVariants.{NumeralTooLarge}
+use Rattle.smt_command.specs.Values.{small_number}
 use Rattle.smt_meaning.specs.declared.tokens.Token.{Token}
 use Rattle.smt_meaning.specs.declared.tokens.Token.TheVariants.{Numeral}
 use Rattle.smt_meaning.specs.Sexp.{Sexp, word, ◌▸◌}
@@ -26,6 +33,33 @@ stays_above most cs i n h e k =
     let f = with_first cs i n h in
     let g = not_smaller (drop (suc i) cs) (10 * n + (get_or cs i 0 - 48)) in
     omega (arith, e, f, g, k)
+
+-- ---- numbers of the range
+
+small_is : (cs : List ℕ) → decimal cs < 2 ^ 127 → small_number cs ≡ Ok (pos (decimal cs))
+unfolding small_number
+small_is cs h = ap (λ b. cond b (Ok (pos (decimal cs))) (Err NumeralTooLarge)) (lt-ltb (decimal cs) (2 ^ 127) h)
+
+large_is : (cs : List ℕ) → 2 ^ 127 ≤ decimal cs → small_number cs ≡ Err NumeralTooLarge
+unfolding small_number
+large_is cs h = ap (λ b. cond b (Ok (pos (decimal cs))) (Err NumeralTooLarge)) (le-ltb (decimal cs) (2 ^ 127) h)
+
+pub written_small : (cs : List ℕ) (n : ℤ) → Ok n ≡ small_number cs → (n ≡ pos (decimal cs)) × (decimal cs < 2 ^ 127)
+written_small cs n h =
+    elim (cases_lt (decimal cs) (2 ^ 127)) [
+      | inl less ↦ let e : Ok n ≡ Ok (pos (decimal cs)) = h ∙ small_is cs less in let f : n ≡ pos (decimal cs) = cc in (f, less)
+      | inr above ↦ let e : Ok n ≡ Err NumeralTooLarge = h ∙ large_is cs above in absurd cc
+    ]
+
+pub written_large : (cs : List ℕ) (e : Refusal) → Err e ≡ small_number cs → 2 ^ 127 ≤ decimal cs
+written_large cs e h =
+    elim (cases_lt (decimal cs) (2 ^ 127)) [
+      | inl less ↦ let f : Err e ≡ Ok (pos (decimal cs)) = h ∙ small_is cs less in absurd cc
+      | inr above ↦ above
+    ]
+
+pub same_number : (z : ℤ) (n : ℕ) → z ≡ pos n → n < 2 ^ 127 → to_z w128 (of_z w128 z) ≡ pos n
+same_number z n e h = same_bits z (subst InRange (sym e) h) ∙ e
 
 -- ---- numbers that are read
 

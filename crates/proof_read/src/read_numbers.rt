@@ -11,6 +11,7 @@ ghost use Rattle.proof_read.specs.ReadNumbers.{WrittenBelow, NotesNegative, inte
 
 use crate::read_parts::{Part, Progress, Source};
 use proof_meaning::StepId;
+use smt_command::written_number;
 use smt_meaning::TermId;
 
 /// The number that digits write, where it is below 2^64.
@@ -41,33 +42,11 @@ pub(crate) fn decimal(digits: &[u8]) -> Option<u128>
 {
     match short_decimal(digits) {
         Some(number) => Some(u128::from(number)),
-        None => long_decimal(digits),
+        None => match written_number(digits) {
+            Ok(number) => Some(number as u128),
+            Err(_) => None,
+        },
     }
-}
-
-fn long_decimal(digits: &[u8]) -> Option<u128>
-    ensures { WrittenBelow (2 ^ 127) digits.now result }
-{
-    let mut number: u128 = 0;
-    for digit in digits {
-        match long_with_digit(number, *digit) {
-            Some(next) => number = next,
-            None => return None,
-        }
-    }
-    Some(number)
-}
-
-/// The number with one digit more, where it is below 2^127.
-fn long_with_digit(number: u128, digit: u8) -> Option<u128>
-    ensures { MatchOption result (2 ^ 127 ≤ 10 * number + (digit - 48)) (λ n. (n ≡ 10 * number + (digit - 48)) × (n < 2 ^ 127)) }
-{
-    let tens = number.checked_mul(10)?;
-    let larger = tens.checked_add(u128::from(digit.saturating_sub(48)))?;
-    if larger >= 1 << 127 {
-        return None;
-    }
-    Some(larger)
 }
 
 /// The number that digits write, where it is at most this one.

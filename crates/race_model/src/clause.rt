@@ -6,7 +6,13 @@ use crate::event::Entry;
 use smt_meaning::{Atom, Clause, Literal, Seq, Summand};
 use std::alloc::{AllocError, Global};
 
-fn are_same_sums(one: &[Summand], other: &[Summand]) -> bool
+/// What is compared part by part.
+trait Same {
+    fn is_same(&self, other: &Self) -> bool
+        ensures { MatchBool result (self.now ≡ other.now) (self.now ≢ other.now) };
+}
+
+fn are_same<T: Same>(one: &[T], other: &[T]) -> bool
     ensures { MatchBool result (one.now ≡ other.now) (one.now ≢ other.now) }
 {
     if one.len() != other.len() {
@@ -14,7 +20,7 @@ fn are_same_sums(one: &[Summand], other: &[Summand]) -> bool
     }
     let mut i = 0;
     while i < one.len() {
-        if one[i].coefficient != other[i].coefficient || one[i].term != other[i].term {
+        if !one[i].is_same(&other[i]) {
             return false;
         }
         i += 1;
@@ -22,49 +28,44 @@ fn are_same_sums(one: &[Summand], other: &[Summand]) -> bool
     true
 }
 
-fn is_same_atom(one: &Atom, other: &Atom) -> bool
-    ensures { MatchBool result (one.now ≡ other.now) (one.now ≢ other.now) }
-{
-    match one {
-        Atom::Truth(s) => match other {
-            Atom::Truth(t) => *s == *t,
-            _ => false,
-        },
-        Atom::AtMost(sum, bound) => match other {
-            Atom::AtMost(sum_2, bound_2) => {
-                *bound == *bound_2 && are_same_sums(sum.as_slice(), sum_2.as_slice())
-            }
-            _ => false,
-        },
-        Atom::Same(s, t) => match other {
-            Atom::Same(s_2, t_2) => *s == *s_2 && *t == *t_2,
-            _ => false,
-        },
+impl Same for Summand {
+    fn is_same(&self, other: &Summand) -> bool {
+        self.coefficient == other.coefficient && self.term == other.term
     }
 }
 
-fn are_same_literals(one: &[Literal], other: &[Literal]) -> bool
-    ensures { MatchBool result (one.now ≡ other.now) (one.now ≢ other.now) }
-{
-    if one.len() != other.len() {
-        return false;
-    }
-    let mut i = 0;
-    while i < one.len() {
-        if one[i].positive != other[i].positive || !is_same_atom(&one[i].atom, &other[i].atom) {
-            return false;
+impl Same for Atom {
+    fn is_same(&self, other: &Atom) -> bool {
+        match self {
+            Atom::Truth(s) => match other {
+                Atom::Truth(t) => *s == *t,
+                _ => false,
+            },
+            Atom::AtMost(sum, bound) => match other {
+                Atom::AtMost(sum_2, bound_2) => {
+                    *bound == *bound_2 && are_same(sum.as_slice(), sum_2.as_slice())
+                }
+                _ => false,
+            },
+            Atom::Same(s, t) => match other {
+                Atom::Same(s_2, t_2) => *s == *s_2 && *t == *t_2,
+                _ => false,
+            },
         }
-        i += 1;
     }
-    true
+}
+
+impl Same for Literal {
+    fn is_same(&self, other: &Literal) -> bool {
+        self.positive == other.positive && self.atom.is_same(&other.atom)
+    }
 }
 
 /// Whether two clauses have the same literals in the same order and the same level.
 pub fn is_same_clause(one: &Clause, other: &Clause) -> bool
     ensures { MatchBool result (one.now ≡ other.now) (one.now ≢ other.now) }
 {
-    one.level == other.level
-        && are_same_literals(one.literals.as_slice(), other.literals.as_slice())
+    one.level == other.level && are_same(one.literals.as_slice(), other.literals.as_slice())
 }
 
 /// Whether the clause is one of these.

@@ -2,7 +2,8 @@
 //! is none.
 //!
 //! `command`: what an s-expression is as a command, or its error, exactly. `name_of_whole`: the
-//! name that `:named` gives to the whole of a term, exactly.
+//! name that `:named` gives to the whole of a term, exactly. `written_number`: the number
+//! that digits write, or the error of one that is past 2^127 - 1.
 #![tactic(auto)]
 
 mod arguments;
@@ -16,3 +17,4 @@ mod settings;
 
 pub use judge::command;
 pub use naming::name_of_whole;
+pub use number::number as written_number;

@@ -1,6 +1,0 @@
-use Rattle.std.proofs.Common.{arith}
-use Rattle.std.proofs.lemmas.List.{same_lists}
-use Rattle.race_model.proofs.clause.are_same_sums.Goals as goal
-
-pub returns : goal.returns
-returns c = same_lists _ _ c.loop-i.invariant.lengths (λ k d lt. c.loop-i.invariant.same k d (omega arith))
