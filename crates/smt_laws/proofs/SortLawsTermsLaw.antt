@@ -150,6 +150,23 @@ left_over_sort ds ps o t u r s x h k a e =
 two_of_three : (n : ℕ) → nat_eq (suc (suc (suc n))) 2 ≡ true → ⊥
 two_of_three n h = let q : suc (suc (suc n)) ≡ 2 = eqb-true (suc (suc (suc n))) 2 h in omega (arith, q)
 
+-- an operator of two numbers, of which the tree has their quotient beside them
+two_divided_sort : (ds : List Declaration) (ps : List Sort) (o : Operator) (us : Trees) (ss : List Sort) (r x : Sort)
+    → ((t u : Tree) → operation o (more t (more u none)) ≡ node (Theory o) (more t (more u (more (quotient_tree t u) none)))) → head_at ds ps (Theory o) (Ints ∷ Ints ∷ Ints ∷ []) ≡ Some r
+    → HaveSorts ds ps us ss → nat_eq (length ss) 2 ≡ true → if_so (all_of Ints ss) r ≡ Some x → HasSort ds ps (operation o us) x
+two_divided_sort ds ps o none [] r x is at w k e = absurd (cc)
+two_divided_sort ds ps o none (s ∷ ss) r x is at w k e = absurd w
+two_divided_sort ds ps o (more t us) [] r x is at w k e = absurd w
+two_divided_sort ds ps o (more t none) (s ∷ []) r x is at w k e = absurd (cc)
+two_divided_sort ds ps o (more t none) (s ∷ q ∷ ss) r x is at w k e = absurd w.1
+two_divided_sort ds ps o (more t (more u us)) (s ∷ []) r x is at w k e = absurd w.1
+two_divided_sort ds ps o (more t (more u none)) (s ∷ q ∷ []) r x is at w k e =
+    let p : (all_of Ints (s ∷ q ∷ []) ≡ true) × (r ≡ x) = all_ints (all_of Ints (s ∷ q ∷ [])) r x e in
+    subst (λ v. HasSort ds ps v x) (sym (is t u)) (left_over_sort ds ps o t u s q x w.0 w.1.0 p.0 (at ∙ ap Some p.1))
+two_divided_sort ds ps o (more t (more u none)) (s ∷ q ∷ p ∷ ss) r x is at w k e = absurd w.1.1
+two_divided_sort ds ps o (more t (more u (more v us))) (s ∷ q ∷ []) r x is at w k e = absurd w.1.1
+two_divided_sort ds ps o (more t (more u (more v us))) (s ∷ q ∷ p ∷ ss) r x is at w k e = absurd (two_of_three (length ss) k)
+
 -- the tree of an operator that is applied has the operator's sort
 pub operation_sort : (ds : List Declaration) (ps : List Sort) (o : Operator) (us : Trees) (ss : List Sort) (x : Sort) → HaveSorts ds ps us ss → takes o (length ss) ≡ true
     → operator_sort o ss ≡ Some x → HasSort ds ps (operation o us) x
@@ -177,30 +194,8 @@ operation_sort ds ps Divide (more t us) [] x w k e = absurd w
 operation_sort ds ps Divide (more t us) (s ∷ ss) x w k e =
     let p : (all_of Ints (s ∷ ss) ≡ true) × (Ints ≡ x) = all_ints (all_of Ints (s ∷ ss)) Ints x e in
     subst (HasSort ds ps (divided_from t us)) p.1 (divided_sort ds ps t us ss (subst (HasSort ds ps t) (int_first s ss p.0) w.0) w.1 (int_rest s ss p.0))
-operation_sort ds ps Modulo none [] x w k e = absurd (cc)
-operation_sort ds ps Modulo none (s ∷ ss) x w k e = absurd w
-operation_sort ds ps Modulo (more t us) [] x w k e = absurd w
-operation_sort ds ps Modulo (more t none) (s ∷ []) x w k e = absurd (cc)
-operation_sort ds ps Modulo (more t none) (s ∷ r ∷ ss) x w k e = absurd w.1
-operation_sort ds ps Modulo (more t (more u us)) (s ∷ []) x w k e = absurd w.1
-operation_sort ds ps Modulo (more t (more u none)) (s ∷ r ∷ []) x w k e =
-    let p : (all_of Ints (s ∷ r ∷ []) ≡ true) × (Ints ≡ x) = all_ints (all_of Ints (s ∷ r ∷ [])) Ints x e in
-    left_over_sort ds ps Modulo t u s r x w.0 w.1.0 p.0 (ap Some p.1)
-operation_sort ds ps Modulo (more t (more u none)) (s ∷ r ∷ q ∷ ss) x w k e = absurd w.1.1
-operation_sort ds ps Modulo (more t (more u (more v us))) (s ∷ r ∷ []) x w k e = absurd w.1.1
-operation_sort ds ps Modulo (more t (more u (more v us))) (s ∷ r ∷ q ∷ ss) x w k e = absurd (two_of_three (length ss) k)
-operation_sort ds ps Divisible none [] x w k e = absurd (cc)
-operation_sort ds ps Divisible none (s ∷ ss) x w k e = absurd w
-operation_sort ds ps Divisible (more t us) [] x w k e = absurd w
-operation_sort ds ps Divisible (more t none) (s ∷ []) x w k e = absurd (cc)
-operation_sort ds ps Divisible (more t none) (s ∷ r ∷ ss) x w k e = absurd w.1
-operation_sort ds ps Divisible (more t (more u us)) (s ∷ []) x w k e = absurd w.1
-operation_sort ds ps Divisible (more t (more u none)) (s ∷ r ∷ []) x w k e =
-    let p : (all_of Ints (s ∷ r ∷ []) ≡ true) × (Truths ≡ x) = all_ints (all_of Ints (s ∷ r ∷ [])) Truths x e in
-    left_over_sort ds ps Divisible t u s r x w.0 w.1.0 p.0 (ap Some p.1)
-operation_sort ds ps Divisible (more t (more u none)) (s ∷ r ∷ q ∷ ss) x w k e = absurd w.1.1
-operation_sort ds ps Divisible (more t (more u (more v us))) (s ∷ r ∷ []) x w k e = absurd w.1.1
-operation_sort ds ps Divisible (more t (more u (more v us))) (s ∷ r ∷ q ∷ ss) x w k e = absurd (two_of_three (length ss) k)
+operation_sort ds ps Modulo us ss x w k e = two_divided_sort ds ps Modulo us ss Ints x (λ t u. refl) refl w k e
+operation_sort ds ps Divisible us ss x w k e = two_divided_sort ds ps Divisible us ss Truths x (λ t u. refl) refl w k e
 
 operator_has : (ps : List Sort) (t : Scope) (o : Operator) (ts : List Typed) (x : Sort) → AllFine ps ts t → takes o (length ts) ≡ true → operator_sort o (sorts_of ts) ≡ Some x
     → HasSort t.signature ps (operation o (trees_of ts)) x
