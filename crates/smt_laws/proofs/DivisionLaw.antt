@@ -147,9 +147,12 @@ module _ (ts : List Tree) (I : Interpretation) where
   remainder_number a n h = ap (remainder (number a)) (divisor_number n h)
 
   -- the third argument is the quotient
-  third_is : (a n q : Tree) → (is_divisor n && tree_eq q (quotient_tree a n)) ≡ true → number q ≡ quotient (number a) (linear_form ts n).constant
-  third_is a n q h =
-      ap number (tree_eq-true q (quotient_tree a n) (and_right (is_divisor n) (tree_eq q (quotient_tree a n)) h)) ∙ quotient_number a n (and_left (is_divisor n) (tree_eq q (quotient_tree a n)) h)
+  -- a remainder and a divisibility have their divisor and their quotient beside them
+  beside : (a n q : Tree) (rest : Bool) → ((is_divisor n && tree_eq q (quotient_tree a n)) && rest) ≡ true → (is_divisor n ≡ true) × (number q ≡ quotient (number a) (linear_form ts n).constant)
+  beside a n q rest l =
+      let both = and_left (is_divisor n && tree_eq q (quotient_tree a n)) rest l in
+      let divides = and_left (is_divisor n) (tree_eq q (quotient_tree a n)) both in
+      (divides, ap number (tree_eq-true q (quotient_tree a n) (and_right (is_divisor n) (tree_eq q (quotient_tree a n)) both)) ∙ quotient_number a n divides)
 
   -- the rows of a linear term hold of the values
   rows_valued : (h : Head) (us : Trees) → is_linear (node h us) ≡ true → rows_hold number (truth_of (value I (node h us))) (rows_at ts h us) ≡ true
@@ -159,16 +162,13 @@ module _ (ts : List Tree) (I : Interpretation) where
       (rows_force number (truth_of (value I (node (Theory Divide) us))) (linear_form ts n).constant (divisor_some n d)).quotient_meets (node (Theory Divide) us) a n (quotient_number a n d)
   rows_valued (Theory Modulo) (more a (more n (more q none))) l =
       let us : Trees = more a (more n (more q none)) in
-      let shape : (is_divisor n && tree_eq q (quotient_tree a n)) ≡ true = and_left (is_linear_at (Theory Modulo) us) (are_linear us) l in
-      let d : is_divisor n ≡ true = and_left (is_divisor n) (tree_eq q (quotient_tree a n)) shape in
-      (rows_force number (truth_of (value I (node (Theory Modulo) us))) (linear_form ts n).constant (divisor_some n d)).remainder_meets (node (Theory Modulo) us) a n q
-      (third_is a n q shape) (remainder_number a n d)
+      let b = beside a n q (are_linear us) l in
+      (rows_force number (truth_of (value I (node (Theory Modulo) us))) (linear_form ts n).constant (divisor_some n b.0)).remainder_meets (node (Theory Modulo) us) a n q b.1 (remainder_number a n b.0)
   rows_valued (Theory Divisible) (more a (more n (more q none))) l =
       let us : Trees = more a (more n (more q none)) in
-      let shape : (is_divisor n && tree_eq q (quotient_tree a n)) ≡ true = and_left (is_linear_at (Theory Divisible) us) (are_linear us) l in
-      let d : is_divisor n ≡ true = and_left (is_divisor n) (tree_eq q (quotient_tree a n)) shape in
-      (rows_force number (truth_of (value I (node (Theory Divisible) us))) (linear_form ts n).constant (divisor_some n d)).divisibility_meets (node (Theory Divisible) us) a n q
-      (third_is a n q shape) (ap (λ z. int_eq z (pos 0)) (remainder_number a n d))
+      let b = beside a n q (are_linear us) l in
+      (rows_force number (truth_of (value I (node (Theory Divisible) us))) (linear_form ts n).constant (divisor_some n b.0)).divisibility_meets (node (Theory Divisible) us) a n q
+      b.1 (ap (λ z. int_eq z (pos 0)) (remainder_number a n b.0))
   rows_valued (Theory Absolute) (more a none) l =
       (absolute_forced number (truth_of (value I (node (Theory Absolute) (more a none))))).absolute_meets (divisor_of ts (more a none)) (node (Theory Absolute) (more a none)) a refl
   rows_valued h us l = refl
@@ -195,37 +195,20 @@ rows_hold_of ts I (node h us) l = rows_valued ts I h us l
 -- ---- by places
 
 module _ (ts : List Tree) where
-  atoms_placed : (o : Operator) (n : ℤ) (p : ℕ) (is : List ℕ)
-      → flat_map (row_atoms (linear_form ts)) (operator_rows o n (tree_at ts p) (listed (pick ts is))) ≡ flat_map (row_atoms (place_form ts)) (operator_rows o n p is)
-  atoms_placed Divide n p (a ∷ d ∷ []) = refl
-  atoms_placed Modulo n p (a ∷ d ∷ q ∷ []) = refl
-  atoms_placed Divisible n p (a ∷ d ∷ q ∷ []) = refl
-  atoms_placed Absolute n p (a ∷ []) = refl
-  atoms_placed o n p is = refl
+  -- the rows of an operator say the same of trees and of their places
+  record Placed (o : Operator) (n : ℤ) (p : ℕ) (is : List ℕ) : Type 0 where
+    atoms : flat_map (row_atoms (linear_form ts)) (operator_rows o n (tree_at ts p) (listed (pick ts is))) ≡ flat_map (row_atoms (place_form ts)) (operator_rows o n p is)
+    fit : rows_fit ts (operator_rows o n (tree_at ts p) (listed (pick ts is))) ≡ list_all (row_fits (place_form ts)) (operator_rows o n p is)
+    clauses : map (row_literals ts p) (operator_rows o n (tree_at ts p) (listed (pick ts is))) ≡ map (placed_literals ts p) (operator_rows o n p is)
+    hold : (I : Interpretation) (truth : Bool)
+        → rows_hold (λ u. number_of (value I u)) truth (operator_rows o n (tree_at ts p) (listed (pick ts is))) ≡ rows_hold (λ i. number_of (value_at ts I i)) truth (operator_rows o n p is)
 
-  fit_placed : (o : Operator) (n : ℤ) (p : ℕ) (is : List ℕ)
-      → rows_fit ts (operator_rows o n (tree_at ts p) (listed (pick ts is))) ≡ list_all (row_fits (place_form ts)) (operator_rows o n p is)
-  fit_placed Divide n p (a ∷ d ∷ []) = refl
-  fit_placed Modulo n p (a ∷ d ∷ q ∷ []) = refl
-  fit_placed Divisible n p (a ∷ d ∷ q ∷ []) = refl
-  fit_placed Absolute n p (a ∷ []) = refl
-  fit_placed o n p is = refl
-
-  clauses_placed : (o : Operator) (n : ℤ) (p : ℕ) (is : List ℕ)
-      → map (row_literals ts p) (operator_rows o n (tree_at ts p) (listed (pick ts is))) ≡ map (placed_literals ts p) (operator_rows o n p is)
-  clauses_placed Divide n p (a ∷ d ∷ []) = refl
-  clauses_placed Modulo n p (a ∷ d ∷ q ∷ []) = refl
-  clauses_placed Divisible n p (a ∷ d ∷ q ∷ []) = refl
-  clauses_placed Absolute n p (a ∷ []) = refl
-  clauses_placed o n p is = refl
-
-  hold_placed : (I : Interpretation) (truth : Bool) (o : Operator) (n : ℤ) (p : ℕ) (is : List ℕ)
-      → rows_hold (λ u. number_of (value I u)) truth (operator_rows o n (tree_at ts p) (listed (pick ts is))) ≡ rows_hold (λ i. number_of (value_at ts I i)) truth (operator_rows o n p is)
-  hold_placed I truth Divide n p (a ∷ d ∷ []) = refl
-  hold_placed I truth Modulo n p (a ∷ d ∷ q ∷ []) = refl
-  hold_placed I truth Divisible n p (a ∷ d ∷ q ∷ []) = refl
-  hold_placed I truth Absolute n p (a ∷ []) = refl
-  hold_placed I truth o n p is = refl
+  placed : (o : Operator) (n : ℤ) (p : ℕ) (is : List ℕ) → Placed o n p is
+  placed Divide n p (a ∷ d ∷ []) = record { atoms = refl; fit = refl; clauses = refl; hold = λ I truth. refl }
+  placed Modulo n p (a ∷ d ∷ q ∷ []) = record { atoms = refl; fit = refl; clauses = refl; hold = λ I truth. refl }
+  placed Divisible n p (a ∷ d ∷ q ∷ []) = record { atoms = refl; fit = refl; clauses = refl; hold = λ I truth. refl }
+  placed Absolute n p (a ∷ []) = record { atoms = refl; fit = refl; clauses = refl; hold = λ I truth. refl }
+  placed o n p is = record { atoms = refl; fit = refl; clauses = refl; hold = λ I truth. refl }
 
   divisor_placed : (is : List ℕ) → divisor_of ts (pick ts is) ≡ place_divisor ts is
   divisor_placed [] = refl
@@ -239,18 +222,18 @@ module _ (ts : List Tree) where
       ap (λ n. operator_rows o n (node (Theory o) (pick ts is)) (listed (pick ts is))) (divisor_placed is) ∙ ap (λ t. operator_rows o (place_divisor ts is) t (listed (pick ts is))) (sym e)
 
 pub placed_atoms : DivisionAtomsByPlaces
-placed_atoms ts o p is e = ap (flat_map (row_atoms (linear_form ts))) (rows_placed ts o p is e) ∙ atoms_placed ts o (place_divisor ts is) p is
+placed_atoms ts o p is e = ap (flat_map (row_atoms (linear_form ts))) (rows_placed ts o p is e) ∙ (placed ts o (place_divisor ts is) p is).atoms
 
 pub placed_fits : DivisionFitsByPlaces
-placed_fits ts o p is e = ap (rows_fit ts) (rows_placed ts o p is e) ∙ fit_placed ts o (place_divisor ts is) p is
+placed_fits ts o p is e = ap (rows_fit ts) (rows_placed ts o p is e) ∙ (placed ts o (place_divisor ts is) p is).fit
 
 pub placed_clauses : DivisionClausesByPlaces
 placed_clauses ts o p is e f =
     ap (division_clauses ts) e ∙ ap (λ q. map (row_literals ts q) (rows_at ts (Theory o) (pick ts is))) (ap (λ t. place_of t ts) (sym e) ∙ f)
-    ∙ ap (map (row_literals ts p)) (rows_placed ts o p is e) ∙ clauses_placed ts o (place_divisor ts is) p is
+    ∙ ap (map (row_literals ts p)) (rows_placed ts o p is e) ∙ (placed ts o (place_divisor ts is) p is).clauses
 
 pub placed_rows_hold : DivisionHoldsByPlaces
 placed_rows_hold ts I o p is e l =
-    sym (ap (rows_hold (λ u. number_of (value I u)) (truth_of (value_at ts I p))) (rows_placed ts o p is e) ∙ hold_placed ts I (truth_of (value_at ts I p)) o (place_divisor ts is) p is)
+    sym (ap (rows_hold (λ u. number_of (value I u)) (truth_of (value_at ts I p))) (rows_placed ts o p is e) ∙ (placed ts o (place_divisor ts is) p is).hold I (truth_of (value_at ts I p)))
     ∙ ap (λ t. rows_hold (λ u. number_of (value I u)) (truth_of (value I t)) (rows_at ts (Theory o) (pick ts is))) e
     ∙ rows_valued ts I (Theory o) (pick ts is) (subst (λ t. is_linear t ≡ true) e l)

@@ -4,13 +4,50 @@ use Rattle.smt_meaning.specs.declared.tokens.Token.{Token}
 use Rattle.smt_meaning.specs.declared.tokens.Token.TheVariants.{Enter, Leave, Symbol, Keyword}
 use Rattle.smt_meaning.specs.declared.refusals.Refusal.{Refusal}
 use Rattle.smt_meaning.specs.declared.refusals.Refusal.TheVariants.{WrongArguments, AlreadyDeclared}
-use Rattle.smt_meaning.specs.Sexp.{Sexps, word, group, end, ◌▸◌, before, open_lists_of}
+use Rattle.smt_meaning.specs.Sexp.{Sexp, Sexps, word, group, end, ◌▸◌, before, open_lists_of}
 use Rattle.smt_meaning.specs.Signature.{is_one_of}
 use Rattle.smt_meaning.specs.Sorts.{◌>>◌, return, refuse, require, none_twice, check_bindings, bound_names, cons_name, are_attributes, are_attributes_from}
 use Rattle.smt_laws.specs.Walk.{drop_lists, check_let, check_annotation}
 use Rattle.std.specs.Prelude.{if◌then◌else◌, not}
 use Rattle.smt_laws.proofs.Monad.{Same, self, equal, other, both, bind_same, next_is, return_then, refuse_then}
-use Rattle.smt_laws.specs.Form.{unless, LetPlace, before_bindings, between_bindings, before_name, before_term, in_term, after_term, before_body, in_body, after_body, let_read, no_let, LetForm, let_start, let_place, bound_here, with_bound, first_double, let_step, let_run, names_fault, let_fault_at, let_fault, LetFormIsRead, let_is_over, LetFormStays, AnnotationForm, before_annotated, in_annotated, before_attribute, between_attributes, in_value, annotation_read, no_annotation, annotation_step, annotation_run, annotation_fault, AnnotationFormIsRead, AnnotationFormStays}
+use Rattle.smt_laws.specs.Form.{unless, run, IsReadAs, Stays, SexprPlace, unread, reading, read, sexpr_place, LetPlace, before_bindings, between_bindings, before_name, in_term, in_body, let_read, no_let, LetForm, let_start, let_place, bound_here, with_bound, first_double, let_step, names_fault, let_fault_at, let_is_over, let_reading, AnnotationForm, in_annotated, between_attributes, in_value, annotation_read, no_annotation, annotation_step, annotation_fault, annotation_reading}
+
+-- ---- one s-expression
+
+abbrev NotEmpty : List Sexps → Type 0
+NotEmpty [] = ⊥
+NotEmpty (l ∷ lists) = Unit {0}
+
+not_empty_after : (t : Token) (lists : List Sexps) → NotEmpty (before t lists) → NotEmpty lists
+not_empty_after Enter [] h = absurd h
+not_empty_after Leave [] h = absurd h
+not_empty_after _ [] h = absurd h
+not_empty_after t (l ∷ lists) h = tt
+
+-- what is told of the open lists that are left, before an s-expression, in it and after it
+abbrev around : {A : Type 0} → (List Sexps → A) → (List Sexps → A) → SexprPlace → List Sexps → A
+around at_first at_last unread lists = at_first lists
+around at_first at_last (reading d) lists = at_last (drop_lists (suc d) lists)
+around at_first at_last read lists = at_last lists
+
+-- the token is one of the s-expression's
+abbrev Within : SexprPlace → Token → Type 0
+Within unread Leave = ⊥
+Within read t = ⊥
+Within _ t = Unit {0}
+
+around_step : {A : Type 0} (at_first at_last : List Sexps → A) → ((x : Sexp) (l : Sexps) (lists : List Sexps) → at_first ((x ▸ l) ∷ lists) ≡ at_last (l ∷ lists))
+    → (p : SexprPlace) (t : Token) (lists : List Sexps) → NotEmpty (before t lists) → Within p t → around at_first at_last p (before t lists) ≡ around at_first at_last (sexpr_place p t) lists
+around_step at_first at_last one p t [] h w = absurd (not_empty_after t [] h)
+around_step at_first at_last one p Enter (l ∷ []) h w = absurd h
+around_step at_first at_last one unread Enter (l ∷ m ∷ lists) h w = one (group l) m lists
+around_step at_first at_last one unread Leave (l ∷ lists) h w = absurd w
+around_step at_first at_last one unread t (l ∷ lists) h w = one (word t) l lists
+around_step at_first at_last one (reading d) Enter (l ∷ m ∷ lists) h w = refl
+around_step at_first at_last one (reading zero) Leave (l ∷ lists) h w = refl
+around_step at_first at_last one (reading (suc d)) Leave (l ∷ lists) h w = refl
+around_step at_first at_last one (reading d) _ (l ∷ lists) h w = refl
+around_step at_first at_last one read t (l ∷ lists) h w = absurd w
 
 -- ---- what a `let` still comes to, from what is left of the open lists
 
@@ -37,6 +74,13 @@ abbrev body_past : List Sexps → Bool
 body_past [] = false
 body_past (l ∷ lists) = is_last l
 
+-- no name is still to come, where the body is right
+abbrev body_to_come : List Sexps → Option (List (List ℕ))
+body_to_come lists = where_right (Some []) (body_left lists)
+
+abbrev body_come : List Sexps → Option (List (List ℕ))
+body_come lists = where_right (Some []) (body_past lists)
+
 abbrev bindings_left : List Sexps → Option (List (List ℕ))
 bindings_left [] = None
 bindings_left (bs ∷ lists) = where_right (bound_names bs) (body_left lists)
@@ -61,12 +105,8 @@ abbrev still : LetPlace → List Sexps → Option (List (List ℕ))
 still before_bindings lists = all_left lists
 still between_bindings lists = bindings_left lists
 still before_name lists = name_left lists
-still before_term lists = term_left lists
-still (in_term d) lists = ended_left (drop_lists (suc d) lists)
-still after_term lists = ended_left lists
-still before_body lists = where_right (Some []) (body_left lists)
-still (in_body d) lists = where_right (Some []) (body_past (drop_lists (suc d) lists))
-still after_body lists = where_right (Some []) (body_past lists)
+still (in_term p) lists = around term_left ended_left p lists
+still (in_body p) lists = around body_to_come body_come p lists
 still let_read lists = Some []
 still no_let lists = None
 
@@ -86,16 +126,6 @@ fault_next : (old : List (List ℕ)) (d : Option (List ℕ)) (n : List ℕ) (o :
     → fault_with old d (cons_name n o) ≡ fault_with (n ∷ old) (first_double d old (Some n)) o
 fault_next old d n None = refl
 fault_next old d n (Some ns) = refl
-
-abbrev NotEmpty : List Sexps → Type 0
-NotEmpty [] = ⊥
-NotEmpty (l ∷ lists) = Unit {0}
-
-not_empty_after : (t : Token) (lists : List Sexps) → NotEmpty (before t lists) → NotEmpty lists
-not_empty_after Enter [] h = absurd h
-not_empty_after Leave [] h = absurd h
-not_empty_after _ [] h = absurd h
-not_empty_after t (l ∷ lists) h = tt
 
 cons_right : (n : List ℕ) (o : Option (List (List ℕ))) (b : Bool) → where_right (cons_name n o) b ≡ cons_name n (where_right o b)
 cons_right n None b = refl
@@ -122,26 +152,16 @@ place_step before_name Enter (l ∷ m ∷ lists) h e = refl
 place_step before_name Leave (l ∷ lists) h e = refl
 place_step before_name (Symbol n) (l ∷ lists) h e = absurd (cc)
 place_step before_name _ (l ∷ lists) h e = refl
-place_step before_term Enter (l ∷ m ∷ lists) h e = refl
-place_step before_term Leave (l ∷ lists) h e = refl
-place_step before_term _ (l ∷ lists) h e = refl
-place_step (in_term d) Enter (l ∷ m ∷ lists) h e = refl
-place_step (in_term zero) Leave (l ∷ lists) h e = refl
-place_step (in_term (suc d)) Leave (l ∷ lists) h e = refl
-place_step (in_term d) _ (l ∷ lists) h e = refl
-place_step after_term Enter (l ∷ m ∷ lists) h e = refl
-place_step after_term Leave (l ∷ lists) h e = refl
-place_step after_term _ (l ∷ lists) h e = refl
-place_step before_body Enter (l ∷ m ∷ lists) h e = refl
-place_step before_body Leave (l ∷ lists) h e = refl
-place_step before_body _ (l ∷ lists) h e = refl
-place_step (in_body d) Enter (l ∷ m ∷ lists) h e = refl
-place_step (in_body zero) Leave (l ∷ lists) h e = refl
-place_step (in_body (suc d)) Leave (l ∷ lists) h e = refl
-place_step (in_body d) _ (l ∷ lists) h e = refl
-place_step after_body Enter (l ∷ m ∷ lists) h e = refl
-place_step after_body Leave (l ∷ lists) h e = refl
-place_step after_body _ (l ∷ lists) h e = refl
+place_step (in_term unread) Leave (l ∷ lists) h e = refl
+place_step (in_term read) Enter (l ∷ m ∷ lists) h e = refl
+place_step (in_term read) Leave (l ∷ lists) h e = refl
+place_step (in_term read) _ (l ∷ lists) h e = refl
+place_step (in_term p) t lists h e = around_step term_left ended_left (λ x l ls. refl) p t lists h tt
+place_step (in_body unread) Leave (l ∷ lists) h e = refl
+place_step (in_body read) Enter (l ∷ m ∷ lists) h e = refl
+place_step (in_body read) Leave (l ∷ lists) h e = refl
+place_step (in_body read) _ (l ∷ lists) h e = refl
+place_step (in_body p) t lists h e = around_step body_to_come body_come (λ x l ls. refl) p t lists h tt
 place_step let_read t (l ∷ lists) h e = refl
 place_step no_let t (l ∷ lists) h e = refl
 
@@ -162,18 +182,18 @@ at_end : (p : LetPlace) (names : List (List ℕ)) (d : Option (List ℕ)) → le
 at_end before_bindings names d = refl
 at_end between_bindings names d = refl
 at_end before_name names d = refl
-at_end before_term names d = refl
-at_end (in_term zero) names d = refl
-at_end (in_term (suc k)) names d = refl
-at_end after_term names d = refl
-at_end before_body names d = refl
-at_end (in_body zero) names d = refl
-at_end (in_body (suc k)) names d = refl
-at_end after_body names d = refl
+at_end (in_term unread) names d = refl
+at_end (in_term (reading zero)) names d = refl
+at_end (in_term (reading (suc k))) names d = refl
+at_end (in_term read) names d = refl
+at_end (in_body unread) names d = refl
+at_end (in_body (reading zero)) names d = refl
+at_end (in_body (reading (suc k))) names d = refl
+at_end (in_body read) names d = refl
 at_end let_read names d = refl
 at_end no_let names d = refl
 
-run_fault : (f : LetForm) (ts : List Token) → NotEmpty (open_lists_of ts) → let_fault (let_run f ts) ≡ fault_with f.names f.double (still f.place (open_lists_of ts))
+run_fault : (f : LetForm) (ts : List Token) → NotEmpty (open_lists_of ts) → let_reading.fault (run let_reading f ts) ≡ fault_with f.names f.double (still f.place (open_lists_of ts))
 run_fault f [] h = at_end f.place f.names f.double
 run_fault f (t ∷ ts) h =
     run_fault (let_step f t) ts (not_empty_after t (open_lists_of ts) h) ∙ sym (still_step f.names f.double f.place t (open_lists_of ts) (bound_here f.place t) refl h)
@@ -225,17 +245,18 @@ let_checked (group bs ▸ end) lists = equal _ _ (ap (λ x. unless (fault_with [
 let_checked (group bs ▸ b ▸ c ▸ rest) lists = equal _ _ (ap (λ x. unless (fault_with [] None x)) (not_right (bound_names bs)))
 let_checked _ lists = self _
 
-pub let_form_is_read : LetFormIsRead
+pub let_form_is_read : IsReadAs let_reading check_let
 let_form_is_read ts l lists s e =
     (both (equal _ _ (ap unless (run_fault let_start ts (subst NotEmpty (sym e) tt) ∙ ap (λ x. fault_with [] None (all_left x)) e))) (let_checked l lists)).at s
 
-over_stays : (p : LetPlace) (names : List (List ℕ)) (d : Option (List ℕ)) (ts : List Token) → let_is_over p ≡ true → let_fault (let_run (record { place = p; names = names; double = d }) ts) ≡ let_fault_at p names d
+over_stays : (p : LetPlace) (names : List (List ℕ)) (d : Option (List ℕ)) (ts : List Token) → let_is_over p ≡ true
+    → run let_reading (record { place = p; names = names; double = d }) ts ≡ record { place = p; names = names; double = d }
 over_stays p names d [] e = refl
-over_stays let_read names d (t ∷ ts) e = over_stays let_read names (first_double d names None) ts e ∙ ap (names_fault names) (double_stays d names)
-over_stays no_let names d (t ∷ ts) e = over_stays no_let names (first_double d names None) ts e
+over_stays let_read names d (t ∷ ts) e = over_stays let_read names (first_double d names None) ts e ∙ ap (λ x. record { place = let_read; names = names; double = x }) (double_stays d names)
+over_stays no_let names d (t ∷ ts) e = over_stays no_let names (first_double d names None) ts e ∙ ap (λ x. record { place = no_let; names = names; double = x }) (double_stays d names)
 over_stays _ names d (t ∷ ts) e = absurd (cc)
 
-pub let_form_stays : LetFormStays
+pub let_form_stays : Stays let_reading
 let_form_stays f ts e = over_stays f.place f.names f.double ts e
 
 -- ---- `!`
@@ -254,9 +275,7 @@ annotated_left ((t ▸ rest) ∷ lists) = are_attributes rest
 annotated_left _ = false
 
 abbrev well_formed : AnnotationForm → List Sexps → Bool
-well_formed before_annotated lists = annotated_left lists
-well_formed (in_annotated d) lists = attributes_left (drop_lists (suc d) lists)
-well_formed before_attribute lists = attributes_left lists
+well_formed (in_annotated p) lists = around annotated_left attributes_left p lists
 well_formed (between_attributes may) lists = more_attributes_left may lists
 well_formed (in_value d) lists = more_attributes_left false (drop_lists (suc d) lists)
 well_formed annotation_read lists = true
@@ -265,17 +284,12 @@ well_formed no_annotation lists = false
 form_step : (f : AnnotationForm) (t : Token) (lists : List Sexps) → NotEmpty (before t lists) → well_formed f (before t lists) ≡ well_formed (annotation_step f t) lists
 form_step f t [] h = absurd (not_empty_after t [] h)
 form_step f Enter (l ∷ []) h = absurd h
-form_step before_annotated Enter (l ∷ m ∷ lists) h = refl
-form_step before_annotated Leave (l ∷ lists) h = refl
-form_step before_annotated _ (l ∷ lists) h = refl
-form_step (in_annotated d) Enter (l ∷ m ∷ lists) h = refl
-form_step (in_annotated zero) Leave (l ∷ lists) h = refl
-form_step (in_annotated (suc d)) Leave (l ∷ lists) h = refl
-form_step (in_annotated d) _ (l ∷ lists) h = refl
-form_step before_attribute Enter (l ∷ m ∷ lists) h = refl
-form_step before_attribute Leave (l ∷ lists) h = refl
-form_step before_attribute (Keyword k) (l ∷ lists) h = refl
-form_step before_attribute _ (l ∷ lists) h = refl
+form_step (in_annotated unread) Leave (l ∷ lists) h = refl
+form_step (in_annotated read) Enter (l ∷ m ∷ lists) h = refl
+form_step (in_annotated read) Leave (l ∷ lists) h = refl
+form_step (in_annotated read) (Keyword k) (l ∷ lists) h = refl
+form_step (in_annotated read) _ (l ∷ lists) h = refl
+form_step (in_annotated p) t lists h = around_step annotated_left attributes_left (λ x l ls. refl) p t lists h tt
 form_step (between_attributes true) Enter (l ∷ m ∷ lists) h = refl
 form_step (between_attributes false) Enter (l ∷ m ∷ lists) h = refl
 form_step (between_attributes may) Leave (l ∷ lists) h = refl
@@ -294,17 +308,17 @@ form_fault true = None
 form_fault false = Some WrongArguments
 
 form_at_end : (f : AnnotationForm) → annotation_fault f ≡ form_fault (well_formed f (end ∷ []))
-form_at_end before_annotated = refl
-form_at_end (in_annotated zero) = refl
-form_at_end (in_annotated (suc d)) = refl
-form_at_end before_attribute = refl
+form_at_end (in_annotated unread) = refl
+form_at_end (in_annotated (reading zero)) = refl
+form_at_end (in_annotated (reading (suc d))) = refl
+form_at_end (in_annotated read) = refl
 form_at_end (between_attributes may) = refl
 form_at_end (in_value zero) = refl
 form_at_end (in_value (suc d)) = refl
 form_at_end annotation_read = refl
 form_at_end no_annotation = refl
 
-form_fault_is : (f : AnnotationForm) (ts : List Token) → NotEmpty (open_lists_of ts) → annotation_fault (annotation_run f ts) ≡ form_fault (well_formed f (open_lists_of ts))
+form_fault_is : (f : AnnotationForm) (ts : List Token) → NotEmpty (open_lists_of ts) → annotation_fault (run annotation_reading f ts) ≡ form_fault (well_formed f (open_lists_of ts))
 form_fault_is f [] h = form_at_end f
 form_fault_is f (t ∷ ts) h = form_fault_is (annotation_step f t) ts (not_empty_after t (open_lists_of ts) h) ∙ ap form_fault (sym (form_step f t (open_lists_of ts) h))
 
@@ -316,11 +330,11 @@ annotation_checked : (l : Sexps) (lists : List Sexps) → Same (unless (form_fau
 annotation_checked end lists = self _
 annotation_checked (t ▸ rest) lists = required_form (are_attributes rest)
 
-pub annotation_form_is_read : AnnotationFormIsRead
+pub annotation_form_is_read : IsReadAs annotation_reading check_annotation
 annotation_form_is_read ts l lists s e =
-    (both (equal _ _ (ap unless (form_fault_is before_annotated ts (subst NotEmpty (sym e) tt) ∙ ap (λ x. form_fault (annotated_left x)) e))) (annotation_checked l lists)).at s
+    (both (equal _ _ (ap unless (form_fault_is (in_annotated unread) ts (subst NotEmpty (sym e) tt) ∙ ap (λ x. form_fault (annotated_left x)) e))) (annotation_checked l lists)).at s
 
-pub annotation_form_stays : AnnotationFormStays
+pub annotation_form_stays : Stays annotation_reading
 annotation_form_stays f [] e = refl
 annotation_form_stays annotation_read (t ∷ ts) e = annotation_form_stays annotation_read ts e
 annotation_form_stays no_annotation (t ∷ ts) e = annotation_form_stays no_annotation ts e

@@ -1,19 +1,13 @@
 -- What noting trees and declaring symbols keep, judging terms and commands keeps.
 use Rattle.std.proofs.Common.{◌≡◌, ℕ, ◌+◌, List, [], ◌∷◌, ◌++◌, map, refl, Bool, true, false, Option, Some, None, nat_lt}
-use Rattle.std.specs.Prelude.{ℤ, pos, codes, bytes_eq, if◌then◌else◌}
+use Rattle.std.specs.Prelude.{ℤ, codes, if◌then◌else◌}
 use Rattle.smt_meaning.specs.declared.values.Sort.{Sort}
-use Rattle.smt_meaning.specs.declared.values.Sort.TheVariants.{Bool as Truths}
-use Rattle.smt_meaning.specs.declared.terms.Operator.{Operator}
-use Rattle.smt_meaning.specs.declared.terms.Operator.TheVariants.{True, False, Divisible}
-use Rattle.smt_meaning.specs.declared.terms.Head.TheVariants.{Numeral as Number}
 use Rattle.smt_meaning.specs.declared.tokens.Token.{Token}
-use Rattle.smt_meaning.specs.declared.tokens.Token.TheVariants.{Numeral, Symbol, Reserved, Keyword}
-use Rattle.smt_meaning.specs.declared.tokens.Word.TheVariants.{Exclamation, Let}
 use Rattle.smt_meaning.specs.Declaration.{Declaration}
 use Rattle.smt_meaning.specs.declared.refusals.Refusal.{Refusal}
-use Rattle.smt_meaning.specs.Term.{Tree, Trees, node, none, more}
-use Rattle.smt_meaning.specs.Sexp.{Sexp, Sexps, word, group, end, ◌▸◌, sexp}
-use Rattle.smt_meaning.specs.Sorts.{Scope, Outcome, done, refused, Judging, go_on, ◌>>=◌, ◌>>◌, return, refuse, require, required, the_scope, with_all, note, found, declare, declare_in, most_symbols, Typed, Variable, Rules, Known, variable, operator, function, unknown, known, can_be_applied, judge_application, judge_bare, judge_symbol, judge_operator, judge_token, head_number, judge_head, judge_divisible, check_bindings, none_twice, bound_names, name_by, judge_attributes, either, judge, judge_all, judge_bindings}
+use Rattle.smt_meaning.specs.Term.{Tree}
+use Rattle.smt_meaning.specs.Sexp.{Sexp, sexp}
+use Rattle.smt_meaning.specs.Sorts.{Scope, Outcome, done, refused, Judging, go_on, ◌>>=◌, ◌>>◌, return, refuse, require, required, the_scope, with_all, note, found, declare, declare_in, most_symbols, Typed, Variable, Rules, judge}
 use Rattle.smt_meaning.specs.Goal.{pair_text}
 use Rattle.smt_meaning.specs.StackCommand.{Change, declares, sets, clears, begins_again, is_unsupported, judge_sort, judge_sorts, new_sort_name, new_function_name, declare_new_sort, declare_sort, define_sort, declare_function, judge_parameters, apart, in_body, judge_body, define_function, require_room, in_assert, assert_term, in_question, judge_terms, judge_questions, assume_terms, minimize_term, stack_command}
 use Rattle.smt_meaning.specs.declared.commands.WrittenSort.{WrittenSort}
@@ -21,6 +15,7 @@ use Rattle.smt_meaning.specs.declared.commands.WrittenSort.TheVariants.{Name, Ap
 use Rattle.smt_meaning.specs.declared.commands.Parameter.{Parameter}
 use Rattle.smt_meaning.specs.declared.commands.Command.{Command}
 use Rattle.smt_meaning.specs.declared.commands.Command.TheVariants.{SetOption, DeclareSort, DefineSort, DeclareConst, DeclareFun, DefineFun, Assert, CheckSatAssuming, Push, Pop, GetValue, ResetAssertions, Reset, Minimize}
+use Rattle.smt_laws.proofs.JudgedSteps.{HoldsOfSteps, judge_holds, terms_hold}
 
 -- ---- a property of scopes
 
@@ -91,98 +86,24 @@ module _ {P : Scope → Type 0} (i : Invariant P) where
       go e s same f true = i.declared s e same f
       go e s same f false = tt
 
-  -- ---- terms
+  keeping_steps : HoldsOfSteps (λ (A : Type 0) (m : Judging A). Keeping P m)
+  keeping_steps = record {
+    bind = bind_keeping;
+    next = next_keeping;
+    returns = return_keeping;
+    refuses = refuse_keeping;
+    requires = require_keeping;
+    notes = note_keeping;
+    finds = found_keeping;
+    declares = declare_keeping;
+    scope_then = λ k e h. bind_keeping scope_keeping h;
+  }
 
-  symbol_keeping : (r : Rules) (d : Declaration) (ts : Trees) → Keeping P (judge_symbol r d ts)
-  symbol_keeping r d ts = next_keeping (require_keeping _ _) (next_keeping (note_keeping _) (found_keeping _ _))
+  judge_keeping : (r : Rules) (vs : List Variable) (x : Sexp) → Keeping P (judge r vs x)
+  judge_keeping r vs x = judge_holds keeping_steps r vs x
 
-  operator_keeping : (r : Rules) (o : Operator) (ts : Trees) (x : Sort) → Keeping P (judge_operator r o ts x)
-  operator_keeping r o ts x = next_keeping (require_keeping _ _) (next_keeping (note_keeping _) (found_keeping _ _))
-
-  bare_keeping : (r : Rules) (n : List ℕ) (k : Known) → Keeping P (judge_bare r n k)
-  bare_keeping r n (variable t) = return_keeping t
-  bare_keeping r n unknown = refuse_keeping _ _
-  bare_keeping r n (operator True) = operator_keeping r True _ _
-  bare_keeping r n (operator False) = operator_keeping r False _ _
-  bare_keeping r n (operator _) = refuse_keeping _ _
-  bare_keeping r n (function d) = next_keeping (require_keeping _ _) (symbol_keeping r d _)
-
-  application_keeping : (r : Rules) (n : List ℕ) (k : Known) (ts : List Typed) → Keeping P (judge_application r n k ts)
-  application_keeping r n (variable t) ts = refuse_keeping _ _
-  application_keeping r n unknown ts = refuse_keeping _ _
-  application_keeping r n (operator o) ts = next_keeping (require_keeping _ _) (bind_keeping (required_keeping _ _) (λ x. operator_keeping r o _ x))
-  application_keeping r n (function d) ts = next_keeping (require_keeping _ _) (next_keeping (require_keeping _ _) (symbol_keeping r d _))
-
-  applied_keeping : (n : List ℕ) (k : Known) → Keeping P (can_be_applied n k)
-  applied_keeping n (variable t) = refuse_keeping _ _
-  applied_keeping n unknown = refuse_keeping _ _
-  applied_keeping n _ = return_keeping tt
-
-  token_keeping : (r : Rules) (vs : List Variable) (t : Token) → Keeping P (judge_token r vs t)
-  token_keeping r vs (Symbol n) = bind_keeping scope_keeping (λ s. bare_keeping r n (known vs n s))
-  token_keeping r vs (Numeral cs) = next_keeping (require_keeping _ _) (next_keeping (note_keeping _) (found_keeping _ _))
-  token_keeping r vs _ = refuse_keeping _ _
-
-  head_keeping : (o : Option ℕ) → Keeping P (judge_head o)
-  head_keeping None = refuse_keeping _ _
-  head_keeping (Some n) = next_keeping (require_keeping _ _) (next_keeping (require_keeping _ _) (return_keeping n))
-
-  divisible_keeping : (r : Rules) (n : ℕ) (ts : List Typed) → Keeping P (judge_divisible r n ts)
-  divisible_keeping r n [] = refuse_keeping _ _
-  divisible_keeping r n (a ∷ []) = next_keeping (require_keeping _ _) (operator_keeping r Divisible (more a.tree (more (node (Number (pos n)) none) none)) Truths)
-  divisible_keeping r n (a ∷ b ∷ ts) = refuse_keeping _ _
-
-  none_twice_keeping : (before ns : List (List ℕ)) → Keeping P (none_twice before ns)
-  none_twice_keeping before [] = return_keeping tt
-  none_twice_keeping before (n ∷ ns) = next_keeping (require_keeping _ _) (none_twice_keeping (n ∷ before) ns)
-
-  bindings_keeping : (o : Option (List (List ℕ))) → Keeping P (check_bindings o)
-  bindings_keeping None = refuse_keeping _ _
-  bindings_keeping (Some []) = refuse_keeping _ _
-  bindings_keeping (Some (n ∷ ns)) = none_twice_keeping [] (n ∷ ns)
-
-  name_keeping : (r : Rules) (open_term : Bool) (t : Typed) (ss : Sexps) → Keeping P (name_by r open_term t ss)
-  name_keeping r open_term t (word (Symbol n) ▸ rest) =
-      bind_keeping scope_keeping (λ s. next_keeping (require_keeping _ _) (next_keeping (require_keeping _ _) (next_keeping (require_keeping _ _) (declare_keeping _ (λ n. refl)))))
-  name_keeping r open_term t _ = refuse_keeping _ _
-
-  either_keeping : {A : Type 0} (b : Bool) (m n : Judging A) → Keeping P m → Keeping P n → Keeping P (either b m n)
-  either_keeping true m n h g = h
-  either_keeping false m n h g = g
-
-  attributes_keeping : (r : Rules) (open_term : Bool) (t : Typed) (ss : Sexps) → Keeping P (judge_attributes r open_term t ss)
-  attributes_keeping r open_term t end = return_keeping tt
-  attributes_keeping r open_term t (word (Keyword k) ▸ rest) =
-      either_keeping (bytes_eq k (codes "named")) _ _ (next_keeping (name_keeping r open_term t rest) (attributes_keeping r open_term t rest)) (attributes_keeping r open_term t rest)
-  attributes_keeping r open_term t (_ ▸ rest) = attributes_keeping r open_term t rest
-
-  mutual
-    pub judge_keeping : (r : Rules) (vs : List Variable) (x : Sexp) → Keeping P (judge r vs x)
-    judge_keeping r vs (word t) = token_keeping r vs t
-    judge_keeping r vs (group (word (Reserved Let) ▸ group bs ▸ b ▸ end)) =
-        next_keeping (bindings_keeping (bound_names bs)) (bind_keeping (bound_keeping r vs bs) (λ xs. judge_keeping r (xs ++ vs) b))
-    judge_keeping r vs (group (word (Reserved Let) ▸ _)) = refuse_keeping _ _
-    judge_keeping r vs (group (word (Reserved Exclamation) ▸ t ▸ rest)) =
-        next_keeping (require_keeping _ _)
-        (bind_keeping (judge_keeping r vs t) (λ a. next_keeping (attributes_keeping r _ a rest) (return_keeping a)))
-    judge_keeping r vs (group (word (Reserved Exclamation) ▸ end)) = refuse_keeping _ _
-    judge_keeping r vs (group (word (Reserved w) ▸ _)) = refuse_keeping _ _
-    judge_keeping r vs (group (word (Symbol n) ▸ ss)) =
-        bind_keeping scope_keeping (λ s.
-        next_keeping (applied_keeping n (known vs n s)) (bind_keeping (all_keeping r vs ss) (application_keeping r n (known vs n s))))
-    judge_keeping r vs (group (group hs ▸ ss)) =
-        bind_keeping (head_keeping (head_number hs)) (λ n. bind_keeping (all_keeping r vs ss) (divisible_keeping r n))
-    judge_keeping r vs (group _) = refuse_keeping _ _
-
-    all_keeping : (r : Rules) (vs : List Variable) (ss : Sexps) → Keeping P (judge_all r vs ss)
-    all_keeping r vs end = return_keeping []
-    all_keeping r vs (x ▸ ss) = bind_keeping (judge_keeping r vs x) (λ a. bind_keeping (all_keeping r vs ss) (λ ts. return_keeping (a ∷ ts)))
-
-    bound_keeping : (r : Rules) (vs : List Variable) (ss : Sexps) → Keeping P (judge_bindings r vs ss)
-    bound_keeping r vs end = return_keeping []
-    bound_keeping r vs (group (word (Symbol n) ▸ t ▸ end) ▸ rest) =
-        bind_keeping (judge_keeping r vs t) (λ a. bind_keeping (bound_keeping r vs rest) (λ xs. return_keeping _))
-    bound_keeping r vs (_ ▸ rest) = refuse_keeping _ _
+  terms_keeping : (ts : List (List Token)) → Keeping P (judge_terms ts)
+  terms_keeping ts = terms_hold keeping_steps ts
 
   -- ---- commands
 
@@ -244,10 +165,6 @@ module _ {P : Scope → Type 0} (i : Invariant P) where
 
   assert_keeping : (t : List Token) → Keeping P (assert_term t)
   assert_keeping t = bind_keeping (judge_keeping in_assert [] (sexp t)) (λ a. next_keeping (require_keeping _ _) (next_keeping room_keeping (return_keeping _)))
-
-  terms_keeping : (ts : List (List Token)) → Keeping P (judge_terms ts)
-  terms_keeping [] = return_keeping []
-  terms_keeping (t ∷ ts) = bind_keeping (judge_keeping in_question [] (sexp t)) (λ a. bind_keeping (terms_keeping ts) (λ bs. return_keeping (a ∷ bs)))
 
   questions_keeping : (ts : List (List Token)) → Keeping P (judge_questions ts)
   questions_keeping ts = bind_keeping (terms_keeping ts) (λ bs. next_keeping room_keeping (return_keeping bs))

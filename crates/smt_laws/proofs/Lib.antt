@@ -17,6 +17,7 @@ pub mod BodyLaw
 pub mod EnvironmentLaw
 pub mod Written
 mod TermLawsExamples
+pub mod JudgedSteps
 pub mod Keeping
 pub mod FreshLaw
 mod Questions
@@ -24,6 +25,7 @@ mod JudgedAgain
 pub mod Among
 mod PlacesLaw
 mod Signatures
+mod StepLogic
 mod SortLawsJudgements
 mod SortLawsTermsLaw
 mod SortLawsCommandsLaw

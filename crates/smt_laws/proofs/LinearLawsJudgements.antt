@@ -2,11 +2,11 @@
 use Rattle.std.proofs.Common.{◌≡◌, ◌∙◌, ℕ, ◌+◌, ◌<◌, ◌≤◌, List, [], ◌∷◌, ◌++◌, refl, Bool, true, false, Option, Some, None, nat_lt, arith}
 use Rattle.smt_meaning.specs.declared.values.Sort.{Sort}
 use Rattle.smt_meaning.specs.Declaration.{Declaration, Body}
-use Rattle.smt_meaning.specs.declared.refusals.Refusal.{Refusal}
 use Rattle.smt_meaning.specs.Term.{Tree}
-use Rattle.smt_meaning.specs.Sorts.{Scope, Outcome, done, refused, Judging, go_on, ◌>>=◌, ◌>>◌, return, refuse, require, required, the_scope, note, found, declare, declare_in, most_symbols, Typed, Rules}
+use Rattle.smt_meaning.specs.Sorts.{Scope, refused, ◌>>◌, note, found, declare, declare_in, most_symbols, Typed, Rules}
 use Rattle.smt_laws.proofs.Among.{Among, kept_with_all, among_with_all}
 use Rattle.smt_laws.proofs.Each.{Each, each_with_all}
+use Rattle.smt_laws.proofs.StepLogic.{Logic, Ends, Gives, Nothing}
 use Rattle.smt_laws.proofs.Shapes.{Linear, linear_down, Sound, sound_down, each_sound_more}
 
 -- ---- what a scope keeps
@@ -60,67 +60,14 @@ after_still b s t u h k =
     let second : t.given ≤ u.given = k.given in
     record { kept = λ x m. k.kept x (h.kept x m); given = omega (arith, first, second); none_given = λ e. k.none_given e ∙ h.none_given e }
 
-abbrev pub Ends : {A : Type 0} → Rules → Scope → (A → Scope → Type 0) → Outcome A → Type 0
-Ends r s P (done a t) = (Good r.closed t × After r.naming s t) × P a t
-Ends r s P (refused w) = Unit {0}
-
-pub record Gives {A : Type 0} (r : Rules) (s : Scope) (m : Judging A) (P : A → Scope → Type 0) : Type 0 where
-  pub gives : Good r.closed s → Ends r s P (m s)
-
-abbrev pub Nothing : {A : Type 0} → A → Scope → Type 0
-Nothing a t = Unit {0}
-
--- ---- steps
-
-further : {B : Type 0} (r : Rules) (s t : Scope) (Q : B → Scope → Type 0) → After r.naming s t → (y : Outcome B) → Ends r t Q y → Ends r s Q y
-further r s t Q e (done a u) w = ((w.0.0, after_still r.naming s t u e w.0.1), w.1)
-further r s t Q e (refused x) w = tt
-
-after_go_on : {A B : Type 0} (r : Rules) (s : Scope) (P : A → Scope → Type 0) (Q : B → Scope → Type 0) (x : Outcome A) (k : A → Judging B) → Ends r s P x
-    → ((a : A) (t : Scope) → Good r.closed t → After r.naming s t → P a t → Gives r t (k a) Q) → Ends r s Q (go_on x k)
-after_go_on r s P Q (done a t) k h g = further r s t Q h.0.1 (k a t) ((g a t h.0.0 h.0.1 h.1).gives h.0.0)
-after_go_on r s P Q (refused w) k h g = tt
-
-pub bind_gives : {A B : Type 0} (r : Rules) (s : Scope) (m : Judging A) (k : A → Judging B) (P : A → Scope → Type 0) (Q : B → Scope → Type 0)
-    → Gives r s m P → ((a : A) (t : Scope) → Good r.closed t → After r.naming s t → P a t → Gives r t (k a) Q) → Gives r s (m >>= k) Q
-unfolding ◌>>=◌
-bind_gives r s m k P Q h g = record { gives = λ f. after_go_on r s P Q (m s) k (h.gives f) g }
-
-pub next_gives : {A B : Type 0} (r : Rules) (s : Scope) (m : Judging A) (n : Judging B) (P : A → Scope → Type 0) (Q : B → Scope → Type 0)
-    → Gives r s m P → ((a : A) (t : Scope) → Good r.closed t → After r.naming s t → P a t → Gives r t n Q) → Gives r s (m >> n) Q
-unfolding ◌>>◌
-next_gives r s m n P Q h g = record { gives = λ f. after_go_on r s P Q (m s) (λ a. n) (h.gives f) g }
-
-pub return_gives : {A : Type 0} (r : Rules) (s : Scope) (a : A) (P : A → Scope → Type 0) → P a s → Gives r s (return a) P
-unfolding return
-return_gives r s a P h = record { gives = λ f. ((f, after_self r.naming s), h) }
-
-pub refuse_gives : {A : Type 0} (r : Rules) (s : Scope) (w : Refusal) (P : A → Scope → Type 0) → Gives r s (refuse w) P
-unfolding refuse
-refuse_gives r s w P = record { gives = λ f. tt }
-
-pub require_gives : (r : Rules) (s : Scope) (b : Bool) (w : Refusal) → Gives r s (require b w) (λ a t. b ≡ true)
-unfolding require return refuse
-require_gives r s b w = by_cases b
-  where
-    by_cases : (d : Bool) → Gives r s (require d w) (λ a t. d ≡ true)
-    by_cases true = record { gives = λ f. ((f, after_self r.naming s), refl) }
-    by_cases false = record { gives = λ f. tt }
-
-pub required_gives : {A : Type 0} (r : Rules) (s : Scope) (o : Option A) (w : Refusal) → Gives r s (required o w) Nothing
-unfolding required return refuse
-required_gives r s None w = record { gives = λ f. tt }
-required_gives r s (Some a) w = record { gives = λ f. ((f, after_self r.naming s), tt) }
-
-pub scope_then : {A : Type 0} (r : Rules) (s : Scope) (k : Scope → Judging A) (P : A → Scope → Type 0) → Gives r s (k s) P → Gives r s (the_scope >>= k) P
-unfolding ◌>>=◌ the_scope
-scope_then r s k P h = record { gives = h.gives }
+abbrev pub linearity : Rules → Logic
+linearity r = record { Good = Good r.closed; After = After r.naming; self = after_self r.naming; still = after_still r.naming }
 
 -- a term's tree stands among the trees
 abbrev pub Fine : Typed → Scope → Type 0
 Fine a t = Among a.tree t.trees
 
-pub note_found : (r : Rules) (s : Scope) (us : List Tree) (u : Tree) (x : Sort) → Each (Sound s.given) us → (r.closed ≡ true → Each Linear us) → Among u us → Gives r s (note us >> found u x) Fine
+pub note_found : (r : Rules) (s : Scope) (us : List Tree) (u : Tree) (x : Sort) → Each (Sound s.given) us → (r.closed ≡ true → Each Linear us) → Among u us → Gives (linearity r) s (note us >> found u x) Fine
 unfolding ◌>>◌ note found
 note_found r s us u x sound linear m = record {
   gives = λ f. (
@@ -136,14 +83,14 @@ note_found r s us u x sound linear m = record {
   );
 }
 
-pub declare_gives : (r : Rules) (s : Scope) (d : ℕ → Declaration) → r.naming ≡ true → Stands (s.given + 1) (d s.given) → Gives r s (declare d) Nothing
+pub declare_gives : (r : Rules) (s : Scope) (d : ℕ → Declaration) → r.naming ≡ true → Stands (s.given + 1) (d s.given) → Gives (linearity r) s (declare d) Nothing
 unfolding declare
 declare_gives r s d naming stands = record { gives = λ f. go f (nat_lt s.given most_symbols) }
   where
     named : r.naming ≡ false → s.given + 1 ≡ s.given
     named e = absurd cc
 
-    go : Good r.closed s → (b : Bool) → Ends r s Nothing (declare_in (d s.given) b s)
+    go : Good r.closed s → (b : Bool) → Ends (linearity r) s Nothing (declare_in (d s.given) b s)
     go f true = (
       (
         record {
@@ -156,15 +103,3 @@ declare_gives r s d naming stands = record { gives = λ f. go f (nat_lt s.given 
       tt,
     )
     go f false = tt
-
--- less is known of the value
-pub weaken : {A : Type 0} (r : Rules) (s : Scope) (m : Judging A) (P Q : A → Scope → Type 0) → ((a : A) (t : Scope) → P a t → Q a t) → Gives r s m P → Gives r s m Q
-weaken {A} r s m P Q w h = record { gives = λ g. go (m s) (h.gives g) }
-  where
-    go : (x : Outcome A) → Ends r s P x → Ends r s Q x
-    go (done a t) k = (k.0, w a t k.1)
-    go (refused x) k = tt
-
--- forgets what is known of a value
-pub forget : {A : Type 0} (r : Rules) (s : Scope) (m : Judging A) (P : A → Scope → Type 0) → Gives r s m P → Gives r s m Nothing
-forget r s m P h = weaken r s m P Nothing (λ a t k. tt) h

@@ -11,7 +11,8 @@ use Rattle.smt_laws.specs.Numerals.{numerals_fit}
 use Rattle.smt_laws.specs.LinearLaws.{TreesAreLinear, NumeralsAreInRange, SymbolsAreGiven}
 use Rattle.smt_laws.proofs.Each.{Each, each_all}
 use Rattle.smt_laws.proofs.Shapes.{Linear, Sound, each_fits, each_given}
-use Rattle.smt_laws.proofs.LinearLawsJudgements.{AllStand, all_stand_append, all_stand_more, Good, Ends}
+use Rattle.smt_laws.proofs.StepLogic.{Ends}
+use Rattle.smt_laws.proofs.LinearLawsJudgements.{AllStand, all_stand_append, all_stand_more, Good, linearity}
 use Rattle.smt_laws.proofs.LinearLawsCommandsLaw.{Unnamed, KeepsIfSome, command_keeps}
 
 -- ---- the definitions of frames
@@ -103,7 +104,7 @@ changed_good s clears c f g le u = record { bodies = stand_cleared s.given s.glo
 changed_good s begins_again c f g le u = record { bodies = (tt, tt); sound = tt; linear = tt }
 changed_good s is_unsupported c f g le u = f
 
-outcome_good : (s : Stack) (o : Outcome Change) → GoodStack s → Ends in_assert (scope_of s) (Unnamed s.given) o → GoodStack (after_outcome s o)
+outcome_good : (s : Stack) (o : Outcome Change) → GoodStack s → Ends (linearity in_assert) (scope_of s) (Unnamed s.given) o → GoodStack (after_outcome s o)
 outcome_good s (done change c) f k = changed_good s change c f k.0.0 k.0.1.given k.1
 outcome_good s (refused r) f k = f
 

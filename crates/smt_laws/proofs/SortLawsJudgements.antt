@@ -1,15 +1,15 @@
 -- What holds after each step of a judgement, where it isn't refused.
-use Rattle.std.proofs.Common.{◌≡◌, ℕ, ◌+◌, ◌<◌, List, [], ◌∷◌, ◌++◌, All, ap, sym, subst, ◌∙◌, refl, Bool, true, false, Option, Some, None, nat_lt, append_assoc, append-nil}
+use Rattle.std.proofs.Common.{◌≡◌, ℕ, ◌+◌, ◌<◌, List, [], ◌∷◌, ◌++◌, All, ap, sym, subst, ◌∙◌, refl, Bool, true, false, nat_lt, append_assoc, append-nil}
 use Rattle.std.proofs.lemmas.List.Elements.{All-nil, All-cons, All-head, All-append, All-weaker}
 use Rattle.smt_meaning.specs.declared.values.Sort.{Sort}
 use Rattle.smt_meaning.specs.Declaration.{Declaration}
-use Rattle.smt_meaning.specs.declared.refusals.Refusal.{Refusal}
 use Rattle.smt_meaning.specs.Term.{Tree}
 use Rattle.smt_meaning.specs.Signature.{is_symbol}
-use Rattle.smt_meaning.specs.Sorts.{Scope, Outcome, done, refused, Judging, go_on, ◌>>=◌, ◌>>◌, return, refuse, require, required, the_scope, with_all, note, found, declare, declare_in, most_symbols, Typed}
+use Rattle.smt_meaning.specs.Sorts.{Scope, Outcome, done, refused, Judging, ◌>>◌, with_all, note, found, declare, declare_in, most_symbols, Typed}
 use Rattle.smt_laws.proofs.Among.{Among, kept_with_all, among_with_all}
 use Rattle.smt_laws.proofs.PlacesLaw.{HasSort, LaterThan, later_more, sort_later}
 use Rattle.smt_laws.proofs.Signatures.{Usable, Good, good_more}
+use Rattle.smt_laws.proofs.StepLogic.{Logic, Ends, Gives, Nothing}
 
 -- what a judgement may declare: nothing where nothing may be named, else names of terms
 abbrev pub Naming : Bool → Declaration → Type 0
@@ -54,59 +54,8 @@ nothing_more s t h = go h.names h.behind h.allowed
     go [] e a = e ∙ append-nil s.signature
     go (d ∷ names) e a = absurd (All-head (Naming false) d names a)
 
-abbrev pub Ends : {A : Type 0} → (Declaration → Type 0) → Scope → (A → Scope → Type 0) → Outcome A → Type 0
-Ends may s P (done a t) = (Good t.given t.signature × After may s t) × P a t
-Ends may s P (refused r) = Unit {0}
-
-pub record Gives {A : Type 0} (may : Declaration → Type 0) (s : Scope) (m : Judging A) (P : A → Scope → Type 0) : Type 0 where
-  pub gives : Good s.given s.signature → Ends may s P (m s)
-
-abbrev pub Nothing : {A : Type 0} → A → Scope → Type 0
-Nothing a t = Unit {0}
-
-further : {B : Type 0} (may : Declaration → Type 0) (s t : Scope) (Q : B → Scope → Type 0) → After may s t → (y : Outcome B) → Ends may t Q y → Ends may s Q y
-further may s t Q e (done a u) w = ((w.0.0, after_still may s t u e w.0.1), w.1)
-further may s t Q e (refused r) w = tt
-
-after_go_on : {A B : Type 0} (may : Declaration → Type 0) (s : Scope) (P : A → Scope → Type 0) (Q : B → Scope → Type 0) (x : Outcome A) (k : A → Judging B) → Ends may s P x
-    → ((a : A) (t : Scope) → Good t.given t.signature → After may s t → P a t → Gives may t (k a) Q) → Ends may s Q (go_on x k)
-after_go_on may s P Q (done a t) k h g = further may s t Q h.0.1 (k a t) ((g a t h.0.0 h.0.1 h.1).gives h.0.0)
-after_go_on may s P Q (refused r) k h g = tt
-
-pub bind_gives : {A B : Type 0} (may : Declaration → Type 0) (s : Scope) (m : Judging A) (k : A → Judging B) (P : A → Scope → Type 0) (Q : B → Scope → Type 0)
-    → Gives may s m P → ((a : A) (t : Scope) → Good t.given t.signature → After may s t → P a t → Gives may t (k a) Q) → Gives may s (m >>= k) Q
-unfolding ◌>>=◌
-bind_gives may s m k P Q h g = record { gives = λ f. after_go_on may s P Q (m s) k (h.gives f) g }
-
-pub next_gives : {A B : Type 0} (may : Declaration → Type 0) (s : Scope) (m : Judging A) (n : Judging B) (P : A → Scope → Type 0) (Q : B → Scope → Type 0)
-    → Gives may s m P → ((a : A) (t : Scope) → Good t.given t.signature → After may s t → P a t → Gives may t n Q) → Gives may s (m >> n) Q
-unfolding ◌>>◌
-next_gives may s m n P Q h g = record { gives = λ f. after_go_on may s P Q (m s) (λ a. n) (h.gives f) g }
-
-pub return_gives : {A : Type 0} (may : Declaration → Type 0) (s : Scope) (a : A) (P : A → Scope → Type 0) → P a s → Gives may s (return a) P
-unfolding return
-return_gives may s a P h = record { gives = λ f. ((f, after_self may s), h) }
-
-pub refuse_gives : {A : Type 0} (may : Declaration → Type 0) (s : Scope) (r : Refusal) (P : A → Scope → Type 0) → Gives may s (refuse r) P
-unfolding refuse
-refuse_gives may s r P = record { gives = λ f. tt }
-
-pub require_gives : (may : Declaration → Type 0) (s : Scope) (c : Bool) (r : Refusal) → Gives may s (require c r) (λ a t. c ≡ true)
-unfolding require return refuse
-require_gives may s c r = by_cases c
-  where
-    by_cases : (d : Bool) → Gives may s (require d r) (λ a t. d ≡ true)
-    by_cases true = record { gives = λ f. ((f, after_self may s), refl) }
-    by_cases false = record { gives = λ f. tt }
-
-pub required_gives : {A : Type 0} (may : Declaration → Type 0) (s : Scope) (o : Option A) (r : Refusal) → Gives may s (required o r) (λ a t. o ≡ Some a)
-unfolding required return refuse
-required_gives may s None r = record { gives = λ f. tt }
-required_gives may s (Some a) r = record { gives = λ f. ((f, after_self may s), refl) }
-
-pub scope_then : {A : Type 0} (may : Declaration → Type 0) (s : Scope) (k : Scope → Judging A) (P : A → Scope → Type 0) → Gives may s (k s) P → Gives may s (the_scope >>= k) P
-unfolding ◌>>=◌ the_scope
-scope_then may s k P h = record { gives = h.gives }
+abbrev pub sorting : (Declaration → Type 0) → Logic
+sorting may = record { Good = λ t. Good t.given t.signature; After = After may; self = after_self may; still = after_still may }
 
 -- a term's tree has its sort, and stands among the trees
 abbrev pub Fine : List Sort → Typed → Scope → Type 0
@@ -115,7 +64,7 @@ Fine ps a t = HasSort t.signature ps a.tree a.sort × Among a.tree t.trees
 pub fine_after : (may : Declaration → Type 0) (ps : List Sort) (a : Typed) (s t : Scope) → After may s t → Fine ps a s → Fine ps a t
 fine_after may ps a s t e h = (sort_later s.signature t.signature ps a.tree a.sort e.later h.0, e.kept a.tree h.1)
 
-pub note_found : (may : Declaration → Type 0) (ps : List Sort) (s : Scope) (us : List Tree) (u : Tree) (x : Sort) → HasSort s.signature ps u x → Among u us → Gives may s (note us >> found u x) (Fine ps)
+pub note_found : (may : Declaration → Type 0) (ps : List Sort) (s : Scope) (us : List Tree) (u : Tree) (x : Sort) → HasSort s.signature ps u x → Among u us → Gives (sorting may) s (note us >> found u x) (Fine ps)
 unfolding ◌>>◌ note found
 note_found may ps s us u x h m = record {
   gives = λ f. (
@@ -125,11 +74,11 @@ note_found may ps s us u x h m = record {
 }
 
 pub declare_gives : (may : Declaration → Type 0) (s : Scope) (d : ℕ → Declaration) → ((n : ℕ) → may (d n)) → ((n : ℕ) → (d n).id ≡ n)
-    → ((n : ℕ) → All (λ (e : Declaration). e.id < n) s.signature → (d n).is_sort ≡ false → Usable (s.signature ++ d n ∷ []) (d n)) → Gives may s (declare d) Nothing
+    → ((n : ℕ) → All (λ (e : Declaration). e.id < n) s.signature → (d n).is_sort ≡ false → Usable (s.signature ++ d n ∷ []) (d n)) → Gives (sorting may) s (declare d) Nothing
 unfolding declare
 declare_gives may s d allowed own u = record { gives = λ f. go f (nat_lt s.given most_symbols) }
   where
-    go : Good s.given s.signature → (c : Bool) → Ends may s Nothing (declare_in (d s.given) c s)
+    go : Good s.given s.signature → (c : Bool) → Ends (sorting may) s Nothing (declare_in (d s.given) c s)
     go f true = (
       (
         good_more s.given s.signature (d s.given) (own s.given) f (u s.given f.below),
@@ -140,10 +89,10 @@ declare_gives may s d allowed own u = record { gives = λ f. go f (nat_lt s.give
     go f false = tt
 
 -- less is known of the value, and more might have been declared
-pub weaken : {A : Type 0} (may might : Declaration → Type 0) (s : Scope) (m : Judging A) (P Q : A → Scope → Type 0) → ((d : Declaration) → may d → might d)
-    → ((a : A) (t : Scope) → After may s t → P a t → Q a t) → Gives may s m P → Gives might s m Q
-weaken {A} may might s m P Q w f h = record { gives = λ g. go (m s) (h.gives g) }
+pub widen : {A : Type 0} (may might : Declaration → Type 0) (s : Scope) (m : Judging A) (P Q : A → Scope → Type 0) → ((d : Declaration) → may d → might d)
+    → ((a : A) (t : Scope) → After may s t → P a t → Q a t) → Gives (sorting may) s m P → Gives (sorting might) s m Q
+widen {A} may might s m P Q w f h = record { gives = λ g. go (m s) (h.gives g) }
   where
-    go : (x : Outcome A) → Ends may s P x → Ends might s Q x
+    go : (x : Outcome A) → Ends (sorting may) s P x → Ends (sorting might) s Q x
     go (done a t) k = ((k.0.0, after_wider may might s t w k.0.1), f a t k.0.1 k.1)
     go (refused r) k = tt

@@ -22,8 +22,9 @@ use Rattle.smt_meaning.specs.TreeShape.{is_among}
 use Rattle.smt_meaning.specs.Parts.{IsPart}
 use Rattle.smt_laws.proofs.Among.{Among}
 use Rattle.smt_laws.proofs.OrderLaw.{Ordered, part_among, all_ordered}
-use Rattle.smt_laws.proofs.SortLawsJudgements.{Naming, After, Ends, Fine}
-use Rattle.smt_laws.proofs.SortLawsTermsLaw.{judge_gives}
+use Rattle.smt_laws.proofs.StepLogic.{Ends}
+use Rattle.smt_laws.proofs.SortLawsJudgements.{Naming, After, Fine, sorting}
+use Rattle.smt_laws.proofs.SortLawsTermsLaw.{judge_gives, naming_by}
 use Rattle.smt_laws.proofs.SortLawsCommandsLaw.{Declaring, Does, KeepsIfSome, command_keeps}
 
 -- ---- declarations behind which others stand, and between which others stand
@@ -420,7 +421,7 @@ changed_good s clears c f g l h = record { good = cleared_good s.global s.given 
 changed_good s begins_again c f g l h = record { good = start_frames_good false 0; among = (tt, tt) }
 changed_good s is_unsupported c f g l h = f
 
-outcome_good : (s : Stack) (o : Outcome Change) → GoodStack s → Ends Declaring (scope_of s) (Does (scope_of s)) o → GoodStack (after_outcome s o)
+outcome_good : (s : Stack) (o : Outcome Change) → GoodStack s → Ends (sorting Declaring) (scope_of s) (Does (scope_of s)) o → GoodStack (after_outcome s o)
 outcome_good s (done change c) f k = changed_good s change c f k.0.0 k.0.1 k.1
 outcome_good s (refused r) f k = f
 
@@ -444,8 +445,8 @@ pub accepted_has : AcceptedTermHasItsSort
 accepted_has xs r x t a e =
     let s : Stack = after_all start xs in
     let g : Good s.given (signature_of s.frames) = good_signature s.global s.given s.frames (all_good start xs start_good).good in
-    let h : Ends (Naming r.naming) (scope_of s) (Fine []) (judge r [] x (scope_of s)) = (judge_gives r [] (λ n. refl) [] x (scope_of s) g tt).gives g in
-    closed_sort t.signature a.tree a.sort (subst (Ends (Naming r.naming) (scope_of s) (Fine [])) e h).1.0
+    let h : Ends (naming_by r) (scope_of s) (Fine []) (judge r [] x (scope_of s)) = (judge_gives r [] (λ n. refl) [] x (scope_of s) g tt).gives g in
+    closed_sort t.signature a.tree a.sort (subst (Ends (naming_by r) (scope_of s) (Fine [])) e h).1.0
 
 pub assertions_have : AssertionsAreTruths
 assertions_have xs = all_truths [] (after_all start xs).frames (signature_of (after_all start xs).frames) (later_self (signature_of (after_all start xs).frames)) (all_good start xs start_good).good.fine

@@ -1,8 +1,9 @@
 //! Laws of judging a term in one pass over its tokens, each as the contract of a function that does nothing.
 ghost use Rattle.smt_laws.specs.Again.{NotedOnce, PutLeaves, RootsNoteAll};
-ghost use Rattle.smt_laws.specs.Form.{AnnotationFormIsRead, AnnotationFormStays, LetFormIsRead, LetFormStays};
+ghost use Rattle.smt_laws.specs.Form.{IsReadAs, Stays, annotation_reading, let_reading};
 ghost use Rattle.smt_laws.specs.TermWalkLaws.{WalkGivesTheJudgement};
 ghost use Rattle.smt_laws.specs.Todo.{StoredTreesStay, VisitsParts};
+ghost use Rattle.smt_laws.specs.Walk.{check_annotation, check_let};
 ghost use Rattle.smt_laws.specs.Uses.{FreeIsUsed, LeavesOut, NothingIsFree};
 
 /// Reading the tokens of a term with a stack of frames gives what judging the term gives: the sort and the tree, or the one refusal.
@@ -32,22 +33,22 @@ pub fn roots_note_all()
 
 /// Whether a `let` has its form, and binds no name twice, is found in one pass over its tokens.
 pub fn let_form_is_read()
-    ensures { LetFormIsRead }
+    ensures { IsReadAs let_reading check_let }
 {}
 
 /// Once a `let` is read, or hasn't the form, later tokens change nothing.
 pub fn let_form_stays()
-    ensures { LetFormStays }
+    ensures { Stays let_reading }
 {}
 
 /// Whether an annotation has its form is found in one pass over its tokens.
 pub fn annotation_form_is_read()
-    ensures { AnnotationFormIsRead }
+    ensures { IsReadAs annotation_reading check_annotation }
 {}
 
 /// Once an annotation is read, or hasn't the form, later tokens change nothing.
 pub fn annotation_form_stays()
-    ensures { AnnotationFormStays }
+    ensures { Stays annotation_reading }
 {}
 
 /// Without variables nothing is free in a term.

@@ -13,7 +13,7 @@ use Rattle.smt_reader.specs.declared.part.Part.{Part}
 use Rattle.smt_reader.specs.declared.part.Part.TheVariants.{Blank, Comment, Word, Text, Mark, Quoted}
 use Rattle.smt_reader.specs.Forms.{IsForm, GoesTo}
 use Rattle.smt_reader.specs.Parts.{form_token, goes_on, IsPart}
-use Rattle.smt_reader.proofs.WordForms.{word_is, simple_off, zero_off, digits_off, point_on, point_off, places_off, hash_binary, hash_off, hex_mark_on, hex_mark_off, hex_off, binary_mark_on, binary_mark_off, binary_off, colon_on, colon_off, named_off}
+use Rattle.smt_reader.proofs.WordForms.{word_is, simple_off, zero_off, digits_off, point_on, point_off, places_off, hash_binary, hash_off, mark_on, mark_off, behind_off, hex, binary, keyword}
 use Rattle.smt_reader.proofs.PartSteps.{word_on, word_breaks}
 
 -- the byte 1 at the end is wrong, or is what stands behind a token that is no parenthesis
@@ -66,14 +66,14 @@ module _ (after : List ℕ) (apart : prefix_len is_word_byte after ≡ 0) where
   binary_ends = ends_here BinaryDigits (λ w. (Binary w, refl, refl))
 
   binary_mark_ends : MayEndBefore after BinaryMark
-  binary_mark_ends = ends_later BinaryMark BinaryDigits 48 (binary_mark_on 48 refl) binary_ends
+  binary_mark_ends = ends_later BinaryMark BinaryDigits 48 (mark_on binary 48 refl) binary_ends
 
   named_ends : MayEndBefore after Named
   named_ends = ends_here Named (λ w. (Keyword (drop 1 w), refl, refl))
 
   colon_ends : MayEndBefore after Colon
   unfolding is_symbol_byte
-  colon_ends = ends_later Colon Named 97 (colon_on 97 refl) named_ends
+  colon_ends = ends_later Colon Named 97 (mark_on keyword 97 refl) named_ends
 
   may_end_before : (form : Form) → MayEndBefore after form
   may_end_before Simple = simple_ends
@@ -82,7 +82,7 @@ module _ (after : List ℕ) (apart : prefix_len is_word_byte after ≡ 0) where
   may_end_before Point = ends_later Point Places 48 (point_on 48 refl) places_end
   may_end_before Places = places_end
   may_end_before Hash = ends_later Hash BinaryMark 98 (hash_binary 98 refl) binary_mark_ends
-  may_end_before HexMark = ends_later HexMark HexDigits 48 (hex_mark_on 48 refl) hex_ends
+  may_end_before HexMark = ends_later HexMark HexDigits 48 (mark_on hex 48 refl) hex_ends
   may_end_before HexDigits = hex_ends
   may_end_before BinaryMark = binary_mark_ends
   may_end_before BinaryDigits = binary_ends
@@ -118,12 +118,12 @@ colon_breaks Digits = digits_off 58 refl refl
 colon_breaks Point = point_off 58 refl
 colon_breaks Places = places_off 58 refl
 colon_breaks Hash = hash_off 58 (λ e. omega arith) refl
-colon_breaks HexMark = hex_mark_off 58 refl
-colon_breaks HexDigits = hex_off 58 refl
-colon_breaks BinaryMark = binary_mark_off 58 refl
-colon_breaks BinaryDigits = binary_off 58 refl
-colon_breaks Colon = colon_off 58 refl
-colon_breaks Named = named_off 58 refl
+colon_breaks HexMark = mark_off hex 58 refl
+colon_breaks HexDigits = behind_off hex 58 refl
+colon_breaks BinaryMark = mark_off binary 58 refl
+colon_breaks BinaryDigits = behind_off binary 58 refl
+colon_breaks Colon = mark_off keyword 58 refl
+colon_breaks Named = behind_off keyword 58 refl
 
 -- a word may go on to be none
 pub word_may_break : (form : Form) (start content : List ℕ) → IsForm form start → (more : List ℕ) × (goes_on (Word form) start content more ≡ wrong (start ++ more))

@@ -7,6 +7,19 @@ use Rattle.smt_reader.specs.declared.part.Part.{Part}
 use Rattle.smt_reader.specs.declared.part.Turn.TheVariants.{Adds}
 use Rattle.smt_reader.specs.Parts.{goes_on, GoesOnTo, IsPart, Turns, Passes, Extends}
 
+-- what holds of no byte, and of one of a kind before those of which it holds, holds of the front of bytes of that kind
+along_front : (is : ℕ → Bool) (P : List ℕ → ℕ → Type 0) → ((bytes : List ℕ) → P bytes 0) → ((b : ℕ) (bytes : List ℕ) (n : ℕ) → is b ≡ true → P bytes n → P (b ∷ bytes) (1 + n))
+    → (bytes : List ℕ) → P bytes (prefix_len is bytes)
+along_front is P none one [] = none []
+along_front is P none one (b ∷ bytes) = by_test (is b) refl (along_front is P none one bytes) where
+  by_test : (t : Bool) → is b ≡ t → P bytes (prefix_len is bytes) → P (b ∷ bytes) (cond t (1 + prefix_len is bytes) 0)
+  by_test true e again = one b bytes (prefix_len is bytes) e again
+  by_test false e again = none (b ∷ bytes)
+
+-- bytes taken behind those that were
+taken_further : (bytes : List ℕ) (first more : ℕ) (front : List ℕ) → (front ++ take first bytes) ++ take more (drop first bytes) ≡ front ++ take (first + more) bytes
+taken_further bytes first more front = append_assoc front (take first bytes) (take more (drop first bytes)) ∙ ap (λ xs. front ++ xs) (sym (take-add first more bytes))
+
 -- no byte is passed over
 pub passes_none : (part : Part) (bytes : List ℕ) → Passes part part bytes 0
 passes_none part bytes = record {
@@ -26,8 +39,7 @@ passes_one old later b bytes goes = record {
 -- further bytes are passed over
 pub passes_more : (old mid later : Part) (bytes : List ℕ) (passed more : ℕ) → Passes old mid bytes passed → Passes mid later (drop passed bytes) more → Passes old later bytes (passed + more)
 passes_more old mid later bytes passed more p q =
-    let taken : (start : List ℕ) → (start ++ take passed bytes) ++ take more (drop passed bytes) ≡ start ++ take (passed + more) bytes
-    = λ start. append_assoc start (take passed bytes) (take more (drop passed bytes)) ∙ ap (λ xs. start ++ xs) (sym (take-add passed more bytes)) in
+    let taken = taken_further bytes passed more in
     record {
       within = omega (arith, p.within, q.within, length-drop passed bytes);
       part = λ start is. subst (IsPart later) (taken start) (q.part (start ++ take passed bytes) (p.part start is));
@@ -46,11 +58,8 @@ passes_next old mid later bytes passed lt p goes =
 
 -- bytes of a kind are passed over
 pub passes_while : (part : Part) (is : ℕ → Bool) → ((b : ℕ) → is b ≡ true → GoesOnTo part b part) → (bytes : List ℕ) → Passes part part bytes (prefix_len is bytes)
-passes_while part is goes [] = passes_none part []
-passes_while part is goes (b ∷ bytes) = by_test (is b) refl (passes_while part is goes bytes) where
-  by_test : (t : Bool) → is b ≡ t → Passes part part bytes (prefix_len is bytes) → Passes part part (b ∷ bytes) (cond t (1 + prefix_len is bytes) 0)
-  by_test true e again = passes_more part part part (b ∷ bytes) 1 (prefix_len is bytes) (passes_one part part b bytes (goes b e)) again
-  by_test false e again = passes_none part (b ∷ bytes)
+passes_while part is goes =
+    along_front is (Passes part part) (passes_none part) (λ b bytes n e again. passes_more part part part (b ∷ bytes) 1 n (passes_one part part b bytes (goes b e)) again)
 
 -- no byte is added
 pub extends_none : (part : Part) (bytes : List ℕ) → Extends part part bytes 0
@@ -73,8 +82,7 @@ extends_one old later b bytes adds = record {
 -- further bytes are added
 pub extends_more : (old mid later : Part) (bytes : List ℕ) (added more : ℕ) → Extends old mid bytes added → Extends mid later (drop added bytes) more → Extends old later bytes (added + more)
 extends_more old mid later bytes added more p q =
-    let taken : (front : List ℕ) → (front ++ take added bytes) ++ take more (drop added bytes) ≡ front ++ take (added + more) bytes
-    = λ front. append_assoc front (take added bytes) (take more (drop added bytes)) ∙ ap (λ xs. front ++ xs) (sym (take-add added more bytes)) in
+    let taken = taken_further bytes added more in
     record {
       within = omega (arith, p.within, q.within, length-drop added bytes);
       part = λ start is. subst (IsPart later) (taken start) (q.part (start ++ take added bytes) (p.part start is));
@@ -88,11 +96,8 @@ extends_more old mid later bytes added more p q =
 
 -- bytes of a kind are added
 pub extends_while : (part : Part) (is : ℕ → Bool) → ((b : ℕ) → is b ≡ true → Turns part b (Adds part)) → (bytes : List ℕ) → Extends part part bytes (prefix_len is bytes)
-extends_while part is adds [] = extends_none part []
-extends_while part is adds (b ∷ bytes) = by_test (is b) refl (extends_while part is adds bytes) where
-  by_test : (t : Bool) → is b ≡ t → Extends part part bytes (prefix_len is bytes) → Extends part part (b ∷ bytes) (cond t (1 + prefix_len is bytes) 0)
-  by_test true e again = extends_more part part part (b ∷ bytes) 1 (prefix_len is bytes) (extends_one part part b bytes (adds b e)) again
-  by_test false e again = extends_none part (b ∷ bytes)
+extends_while part is adds =
+    along_front is (Extends part part) (extends_none part) (λ b bytes n e again. extends_more part part part (b ∷ bytes) 1 n (extends_one part part b bytes (adds b e)) again)
 
 -- a byte, and those of a kind behind it
 pub extends_on : (old later : Part) (b : ℕ) (rest : List ℕ) (more : ℕ) → Turns old b (Adds later) → Extends later later rest more → Extends old later (b ∷ rest) (1 + more)

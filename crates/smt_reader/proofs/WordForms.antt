@@ -244,7 +244,7 @@ pub places_off : (b : ℕ) → is_digit b ≡ false → GoesTo Places b None
 unfolding IsForm
 places_off b h w v (n, is, (bs, e, s)) = rw (e, append_assoc (n ++ 46 ∷ []) bs (b ∷ v)) (point_token n (bs ++ b ∷ v) is ∙ rw (some_broken is_digit b bs v h) refl)
 
--- Hexadecimals and binaries
+-- The mark of a hexadecimal or a binary
 
 pub hash_hex : (b : ℕ) → b ≡ 120 → GoesTo Hash b (Some HexMark)
 unfolding IsForm
@@ -258,55 +258,42 @@ pub hash_off : (b : ℕ) → (b ≡ 120 → ⊥) → eqb b 98 ≡ false → Goes
 unfolding IsForm
 hash_off b h k w v e = rw e (by_hash (b ∷ v) ∙ rw (other b 120 h, k) refl)
 
-pub hex_mark_on : (b : ℕ) → is_hex_digit b ≡ true → GoesTo HexMark b (Some HexDigits)
-unfolding IsForm
-hex_mark_on b h = (hex_is_word b h, λ w e. mark_begins is_hex_digit b (35 ∷ 120 ∷ []) w e h)
+-- Bytes of a kind behind a mark
 
-pub hex_mark_off : (b : ℕ) → is_hex_digit b ≡ false → GoesTo HexMark b None
-unfolding IsForm
-hex_mark_off b h w v e = rw e (by_hash (120 ∷ b ∷ v) ∙ rw h refl)
+-- a form of the mark alone, and one with bytes of the kind behind it
+pub record IsMark (mark marked : Form) (front : List ℕ) (is : ℕ → Bool) : Type 0 where
+  alone : (w : List ℕ) → IsForm mark w → w ≡ front
+  begins : (w : List ℕ) → IsMarked front is w → IsForm marked w
+  has : (w : List ℕ) → IsForm marked w → IsMarked front is w
+  in_word : (b : ℕ) → is b ≡ true → is_word_byte b ≡ true
+  no_token : (bs : List ℕ) → some_of is bs ≡ false → word_token (front ++ bs) ≡ None
 
-pub hex_on : (b : ℕ) → is_hex_digit b ≡ true → GoesTo HexDigits b (Some HexDigits)
-unfolding IsForm
-hex_on b h = (hex_is_word b h, λ w is. marked_on is_hex_digit b (35 ∷ 120 ∷ []) w is h)
+module _ {mark marked : Form} {front : List ℕ} {is : ℕ → Bool} (m : IsMark mark marked front is) where
+  pub mark_on : (b : ℕ) → is b ≡ true → GoesTo mark b (Some marked)
+  mark_on b h = (m.in_word b h, λ w e. m.begins (w ++ b ∷ []) (mark_begins is b front w (m.alone w e) h))
 
-pub hex_off : (b : ℕ) → is_hex_digit b ≡ false → GoesTo HexDigits b None
-unfolding IsForm
-hex_off b h w v (bs, e, s) = rw e (by_hash (120 ∷ (bs ++ b ∷ v)) ∙ rw (some_broken is_hex_digit b bs v h) refl)
+  pub mark_off : (b : ℕ) → is b ≡ false → GoesTo mark b None
+  mark_off b h w v e = rw (m.alone w e) (m.no_token (b ∷ v) (some_broken is b [] v h))
 
-pub binary_mark_on : (b : ℕ) → is_binary_digit b ≡ true → GoesTo BinaryMark b (Some BinaryDigits)
-unfolding IsForm
-binary_mark_on b h = (binary_is_word b h, λ w e. mark_begins is_binary_digit b (35 ∷ 98 ∷ []) w e h)
+  pub behind_on : (b : ℕ) → is b ≡ true → GoesTo marked b (Some marked)
+  behind_on b h = (m.in_word b h, λ w k. m.begins (w ++ b ∷ []) (marked_on is b front w (m.has w k) h))
 
-pub binary_mark_off : (b : ℕ) → is_binary_digit b ≡ false → GoesTo BinaryMark b None
-unfolding IsForm
-binary_mark_off b h w v e = rw e (by_hash (98 ∷ b ∷ v) ∙ rw h refl)
+  pub behind_off : (b : ℕ) → is b ≡ false → GoesTo marked b None
+  behind_off b h w v k =
+      let (bs, e, s) = m.has w k in
+      rw (e, append_assoc front bs (b ∷ v)) (m.no_token (bs ++ b ∷ v) (some_broken is b bs v h))
 
-pub binary_on : (b : ℕ) → is_binary_digit b ≡ true → GoesTo BinaryDigits b (Some BinaryDigits)
+pub hex : IsMark HexMark HexDigits (35 ∷ 120 ∷ []) is_hex_digit
 unfolding IsForm
-binary_on b h = (binary_is_word b h, λ w is. marked_on is_binary_digit b (35 ∷ 98 ∷ []) w is h)
+hex = record { alone = λ w e. e; begins = λ w k. k; has = λ w k. k; in_word = hex_is_word; no_token = λ bs h. by_hash (120 ∷ bs) ∙ rw h refl }
 
-pub binary_off : (b : ℕ) → is_binary_digit b ≡ false → GoesTo BinaryDigits b None
+pub binary : IsMark BinaryMark BinaryDigits (35 ∷ 98 ∷ []) is_binary_digit
 unfolding IsForm
-binary_off b h w v (bs, e, s) = rw e (by_hash (98 ∷ (bs ++ b ∷ v)) ∙ rw (some_broken is_binary_digit b bs v h) refl)
+binary = record { alone = λ w e. e; begins = λ w k. k; has = λ w k. k; in_word = binary_is_word; no_token = λ bs h. by_hash (98 ∷ bs) ∙ rw h refl }
 
--- Keywords
-
-pub colon_on : (b : ℕ) → is_symbol_byte b ≡ true → GoesTo Colon b (Some Named)
+pub keyword : IsMark Colon Named (58 ∷ []) is_symbol_byte
 unfolding IsForm
-colon_on b h = (symbol_is_word b h, λ w e. mark_begins is_symbol_byte b (58 ∷ []) w e h)
-
-pub colon_off : (b : ℕ) → is_symbol_byte b ≡ false → GoesTo Colon b None
-unfolding IsForm
-colon_off b h w v e = rw e (by_colon (b ∷ v) ∙ rw h refl)
-
-pub named_on : (b : ℕ) → is_symbol_byte b ≡ true → GoesTo Named b (Some Named)
-unfolding IsForm
-named_on b h = (symbol_is_word b h, λ w is. marked_on is_symbol_byte b (58 ∷ []) w is h)
-
-pub named_off : (b : ℕ) → is_symbol_byte b ≡ false → GoesTo Named b None
-unfolding IsForm
-named_off b h w v (bs, e, s) = rw e (by_colon (bs ++ b ∷ v) ∙ rw (some_broken is_symbol_byte b bs v h) refl)
+keyword = record { alone = λ w e. e; begins = λ w k. k; has = λ w k. k; in_word = symbol_is_word; no_token = λ bs h. by_colon bs ∙ rw h refl }
 
 -- A word's token is that of its form.
 pub word_is : (form : Form) (w : List ℕ) → IsForm form w → word_token w ≡ form_token form w

@@ -115,6 +115,11 @@ pub record IsNewSort (n : List ℕ) (ds : List Declaration) : Type 0 where
   pub unreserved : is_one_of n reserved_sorts ≡ false
   pub undeclared : find_sort n ds ≡ None
 
+-- why a name may not be declared, where it is reserved or not, and declared or not
+abbrev pub IsCauseOf : NameError → Bool → Bool → Type 0
+IsCauseOf Reserved reserved declared = reserved ≡ true
+IsCauseOf AlreadyDeclared reserved declared = (reserved ≡ false) × (declared ≡ true)
+
 -- why a name may not be declared, where it is reserved or not, and something is found under it
 abbrev pub IsCause : NameError → Bool → Option Declaration → Type 0
 IsCause Reserved reserved found = reserved ≡ true

@@ -5,6 +5,7 @@ ghost use Rattle.smt_meaning.specs.Sorts.{most_symbols};
 ghost use Rattle.smt_meaning.specs.StackCommand.{declared_sort, sort_named, sort_declaration, function_declaration};
 ghost use Rattle.smt_meaning.specs.State.{name_of_sort};
 ghost use Rattle.smt_sorts.specs.Listed.{is_named, kind_of, first_that, has_id, name_if_sort};
+ghost use Rattle.smt_sorts.specs.Names.{IsCauseOf};
 
 use crate::entries::{Entries, Kind};
 use crate::errors::{AddError, NameError};
@@ -47,6 +48,20 @@ fn name_if_sort(declaration: &Declaration) -> &[u8]
         declaration.name().as_slice()
     } else {
         b"".as_slice()
+    }
+}
+
+/// Whether a name may be declared that is reserved or not, and that something is declared under or not.
+fn check_name(is_reserved: bool, is_declared: bool) -> Result<(), NameError>
+    ensures ok { OnOk result ((is_reserved ≡ false) × (is_declared ≡ false)) }
+    ensures err { IfErr result (λ e. IsCauseOf e is_reserved is_declared) }
+{
+    if is_reserved {
+        Err(NameError::Reserved)
+    } else if is_declared {
+        Err(NameError::AlreadyDeclared)
+    } else {
+        Ok(())
     }
 }
 
@@ -182,13 +197,10 @@ impl Table {
         ensures ok { OnOk result (IsNewFunction name.now (signature self.now)) }
         ensures err { IfErr result (λ e. IsCause e (is_one_of name.now reserved_functions) (find_function name.now (signature self.now))) }
     {
-        if reserved::is_reserved_function(name) {
-            Err(NameError::Reserved)
-        } else if self.lookup(name).is_some() {
-            Err(NameError::AlreadyDeclared)
-        } else {
-            Ok(())
-        }
+        check_name(
+            reserved::is_reserved_function(name),
+            self.lookup(name).is_some(),
+        )
     }
 
     /// Whether a sort of this name may be declared.
@@ -196,13 +208,10 @@ impl Table {
         ensures ok { OnOk result (IsNewSort name.now (signature self.now)) }
         ensures err { IfErr result (λ e. IsCause e (is_one_of name.now reserved_sorts) (find_sort name.now (signature self.now))) }
     {
-        if reserved::is_reserved_sort(name) {
-            Err(NameError::Reserved)
-        } else if self.find_sort(name).is_some() {
-            Err(NameError::AlreadyDeclared)
-        } else {
-            Ok(())
-        }
+        check_name(
+            reserved::is_reserved_sort(name),
+            self.find_sort(name).is_some(),
+        )
     }
 
     /// The next id. `TooManySymbols` comes exactly where none is left.

@@ -1,6 +1,6 @@
 use Rattle.std.proofs.Common.{refl, ◌∙◌, sym, inl, inr}
 use Rattle.smt_reader.proofs.form.Form.next.Goals as goal
-use Rattle.smt_reader.proofs.WordForms.{chosen_goes, simple_on, simple_off, zero_point, zero_off, digits_on, digits_point, digits_off, point_on, point_off, places_on, places_off, hash_hex, hash_binary, hash_off, hex_mark_on, hex_mark_off, hex_on, hex_off, binary_mark_on, binary_mark_off, binary_on, binary_off, colon_on, colon_off, named_on, named_off}
+use Rattle.smt_reader.proofs.WordForms.{chosen_goes, simple_on, simple_off, zero_point, zero_off, digits_on, digits_point, digits_off, point_on, point_off, places_on, places_off, hash_hex, hash_binary, hash_off, mark_on, mark_off, behind_on, behind_off, hex, binary, keyword}
 
 pub returns-in-Simple : goal.returns-in-Simple
 returns-in-Simple c = chosen_goes _ _ _ _ _ _ _ c.chosen.ensures c.is_symbol_byte.ensures c.in-Simple.is (simple_on c.args.byte) (simple_off c.args.byte)
@@ -34,20 +34,20 @@ returns-in-Hash-2 c =
 pub returns-in-HexMark : goal.returns-in-HexMark
 returns-in-HexMark c =
     elim c.in-HexMark.is [
-      | inl is ↦ chosen_goes _ _ _ _ _ _ _ c.chosen-in-HexMark.ensures c.is_hex_digit.ensures is (hex_mark_on c.args.byte) (hex_mark_off c.args.byte)
-      | inr is ↦ chosen_goes _ _ _ _ _ _ _ c.chosen-in-HexMark.ensures c.is_hex_digit.ensures is (hex_on c.args.byte) (hex_off c.args.byte)
+      | inl is ↦ chosen_goes _ _ _ _ _ _ _ c.chosen-in-HexMark.ensures c.is_hex_digit.ensures is (mark_on hex c.args.byte) (mark_off hex c.args.byte)
+      | inr is ↦ chosen_goes _ _ _ _ _ _ _ c.chosen-in-HexMark.ensures c.is_hex_digit.ensures is (behind_on hex c.args.byte) (behind_off hex c.args.byte)
     ]
 
 pub returns-in-BinaryMark : goal.returns-in-BinaryMark
 returns-in-BinaryMark c =
     elim c.in-BinaryMark.is [
-      | inl is ↦ chosen_goes _ _ _ _ _ _ _ c.chosen-in-BinaryMark.ensures c.is_binary_digit.ensures is (binary_mark_on c.args.byte) (binary_mark_off c.args.byte)
-      | inr is ↦ chosen_goes _ _ _ _ _ _ _ c.chosen-in-BinaryMark.ensures c.is_binary_digit.ensures is (binary_on c.args.byte) (binary_off c.args.byte)
+      | inl is ↦ chosen_goes _ _ _ _ _ _ _ c.chosen-in-BinaryMark.ensures c.is_binary_digit.ensures is (mark_on binary c.args.byte) (mark_off binary c.args.byte)
+      | inr is ↦ chosen_goes _ _ _ _ _ _ _ c.chosen-in-BinaryMark.ensures c.is_binary_digit.ensures is (behind_on binary c.args.byte) (behind_off binary c.args.byte)
     ]
 
 pub returns-in-Colon : goal.returns-in-Colon
 returns-in-Colon c =
     elim c.in-Colon.is [
-      | inl is ↦ chosen_goes _ _ _ _ _ _ _ c.chosen-in-Colon.ensures c.is_symbol_byte-in-Colon.ensures is (colon_on c.args.byte) (colon_off c.args.byte)
-      | inr is ↦ chosen_goes _ _ _ _ _ _ _ c.chosen-in-Colon.ensures c.is_symbol_byte-in-Colon.ensures is (named_on c.args.byte) (named_off c.args.byte)
+      | inl is ↦ chosen_goes _ _ _ _ _ _ _ c.chosen-in-Colon.ensures c.is_symbol_byte-in-Colon.ensures is (mark_on keyword c.args.byte) (mark_off keyword c.args.byte)
+      | inr is ↦ chosen_goes _ _ _ _ _ _ _ c.chosen-in-Colon.ensures c.is_symbol_byte-in-Colon.ensures is (behind_on keyword c.args.byte) (behind_off keyword c.args.byte)
     ]
