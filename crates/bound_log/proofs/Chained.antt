@@ -9,7 +9,7 @@ use Rattle.fraction128.specs.declared.Grid.{Grid}
 use Rattle.fraction128.specs.declared.Side.{Side}
 use Rattle.fraction128.specs.declared.Side.TheVariants.{Lower, Upper}
 use Rattle.fraction128.specs.Grid.{column_at, is_turned, turned}
-use Rattle.fraction128.specs.Chain.{StaysOrRises, StaysOrFalls, IsTightened, unbounded_column, unbounded}
+use Rattle.fraction128.specs.Chain.{StaysOrRises, StaysOrFalls, IsTightened, unbounded_column}
 use Rattle.literals.specs.Signed.{Signed}
 use Rattle.smt_meaning.specs.declared.clauses.Summand.{Summand}
 use Rattle.smt_meaning.specs.declared.clauses.Atom.{Atom}
@@ -22,7 +22,6 @@ use Rattle.sum_bounds.specs.Clauses.{plain}
 use Rattle.bound_log.specs.Told.{State, IsState}
 use Rattle.bound_log.specs.Atoms.{Says, SaysBound, Knows}
 use Rattle.bound_log.specs.Columns.{IsColumnOf, HasColumnsOf}
-use Rattle.bound_log.specs.Pending.{plain_grid}
 use Rattle.bound_log.specs.Chained.{BoundsAreOfLog, LogIsTakenIn}
 use Rattle.bound_log.proofs.Telling.{no_more}
 use Rattle.bound_log.proofs.Breaking.{of_log}

@@ -1,5 +1,5 @@
 -- Grids in which all of another one is taken in.
-use Rattle.std.proofs.Common.{◌≡◌, ℕ, ◌<◌, List, [], ◌++◌, length, map, ℤ, Option, Some, None, refl, sym, ap, ap₂, ◌∙◌, subst, arith}
+use Rattle.std.proofs.Common.{◌≡◌, ℕ, ◌<◌, List, length, map, ℤ, Option, Some, None, refl, sym, ap, ap₂, ◌∙◌, subst, arith}
 use Rattle.std.specs.Prelude.{slice_index_or}
 use Rattle.std.proofs.lemmas.Int.{ints}
 use Rattle.std.proofs.lemmas.List.{length-map, get_or-map}
@@ -8,18 +8,15 @@ use Rattle.fraction128.specs.declared.Summand.{Summand}
 use Rattle.fraction128.specs.declared.TableRow.{TableRow}
 use Rattle.fraction128.specs.declared.Column.{Column}
 use Rattle.fraction128.specs.declared.Grid.{Grid}
-use Rattle.fraction128.specs.Grid.{column_at}
-use Rattle.fraction128.specs.Chain.{StaysOrRises, StaysOrFalls, IsTightened, TakesIn, unbounded_column, unbounded}
+use Rattle.fraction128.specs.Chain.{StaysOrRises, StaysOrFalls, IsTightened, TakesIn, unbounded_column}
 use Rattle.tableau.specs.Table.{Table}
 use Rattle.simplex_steps.specs.State.{column_in, no_column}
 use Rattle.simplex.specs.State.{KeepsValues}
-use Rattle.sum_bounds.specs.Bounds as Bounds
 use Rattle.sum_bounds.proofs.Sums.{same_lists}
 use Rattle.bound_log.specs.Told.{State}
 use Rattle.bound_log.specs.Pending.{plain_grid}
 use Rattle.bound_log.specs.Growth.{IsGrown}
 use Rattle.bound_log.specs.Chained.{ValuesStay}
-use Rattle.bound_log.proofs.Telling.{no_more}
 use Rattle.bound_log.proofs.Growing.{grown_same, same_column, fewer}
 
 -- ---- variables more
