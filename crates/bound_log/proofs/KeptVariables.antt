@@ -1,5 +1,5 @@
 -- The variables of a grid, from state to state.
-use Rattle.std.proofs.Common.{◌≡◌, ℕ, ◌<◌, not, List, [], map, length, get_or, sym, ap, ◌∙◌, subst, arith}
+use Rattle.std.proofs.Common.{◌≡◌, ℕ, ◌<◌, not, List, [], map, length, get_or, refl, sym, ap, ◌∙◌, subst, arith}
 use Rattle.std.proofs.lemmas.List.{length-map, get_or-map, map-append}
 use Rattle.fraction128.specs.declared.Summand.{Summand}
 use Rattle.fraction128.specs.declared.Column.{Column}
@@ -15,6 +15,7 @@ use Rattle.sum_bounds.proofs.Sums.{same_lists}
 use Rattle.bound_log.specs.Told.{State, SumsAreApart, column_sums}
 use Rattle.bound_log.specs.Growth.{IsGrown, GrowsVariables, KeepsVariables}
 use Rattle.bound_log.proofs.Telling.{no_more}
+use Rattle.bound_log.proofs.Taken.{taken_where_grown, taken_where_same}
 
 -- ---- the sums
 
@@ -65,6 +66,7 @@ grows s u grown bases = record {
   sums = ap (map (λ (c : Column). c.sum)) grown.columns ∙ map-append (λ (c : Column). c.sum) s.bounds.columns grown.more;
   stay = bases.stay;
   added = λ i le lt. bases.added i le lt ∙ ap (λ ps. not (is_leaf_sum ps)) (sym (sum_at u i [] lt));
+  taken = taken_where_grown s u grown;
 }
 
 pub grows_self : (s u : State) → u.bounds ≡ s.bounds → GrowsVariables s u
@@ -73,4 +75,13 @@ grows_self s u e = record {
   sums = ap (λ (b : Bounds.State). map (λ (c : Column). c.sum) b.columns) e ∙ sym (no_more (column_sums s));
   stay = λ i lt. ap (λ (b : Bounds.State). is_basic b.table.rows i) e;
   added = λ i le lt. let n = ap (λ (b : Bounds.State). length b.columns) e in absurd (omega (arith, le, lt, n));
+  taken = taken_where_same s u e;
 }
+
+-- ---- values
+
+pub values_kept : (cs ds : List Column) → ds ≡ cs → KeepsValues cs ds
+values_kept cs ds e = subst (KeepsValues cs) (sym e) (record { count = refl; each = λ i. record { sum = refl; value = refl } })
+
+pub values_through : (cs ds es : List Column) → KeepsValues cs ds → KeepsValues ds es → KeepsValues cs es
+values_through cs ds es h k = record { count = k.count ∙ h.count; each = λ i. record { sum = (k.each i).sum ∙ (h.each i).sum; value = (k.each i).value ∙ (h.each i).value } }

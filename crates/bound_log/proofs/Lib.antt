@@ -10,7 +10,9 @@ pub mod Lines
 pub mod Implying
 pub mod Runs
 pub mod Pivots
+pub mod Taken
 pub mod KeptVariables
+pub mod Chained
 pub mod Lemmas
 pub mod Opening
 pub mod Fractions

@@ -30,7 +30,7 @@ use Rattle.bound_log.proofs.Resting.{said_on}
 
 -- ---- bounds of a table's atoms
 
-side_is : (positive turned : Bool) → told_side positive turned ≡ cond (cond positive (not turned) turned) Upper Lower
+pub side_is : (positive turned : Bool) → told_side positive turned ≡ cond (cond positive (not turned) turned) Upper Lower
 side_is true true = refl
 side_is true false = refl
 side_is false true = refl

@@ -12,25 +12,24 @@ use Rattle.fraction128.specs.declared.Side.{Side}
 use Rattle.fraction128.specs.declared.Side.TheVariants.{Lower, Upper}
 use Rattle.fraction128.specs.Grid.{Step, any_crossed, next_step}
 use Rattle.fraction128.specs.Lines.{HasBasis, basis_along}
+use Rattle.fraction128.specs.Chain.{ComesFrom, begins, PivotsLead}
 use Rattle.simplex_steps.specs.Law.{Runs, RunsFit, lines_of}
-use Rattle.search_port.specs.Pivots.{ArePivotsFrom}
 use Rattle.smt_meaning.specs.declared.clauses.Atom.{Atom}
 use Rattle.smt_meaning.specs.CheckAtoms.{IsBoundOf}
 use Rattle.tableau.specs.Table.{Table}
 use Rattle.simplex_steps.specs.State.{grid_of, column_in, no_column, IsRanged, AreRanged}
 use Rattle.simplex_steps.specs.Run.{KeepsLines, kept_lines}
 use Rattle.simplex_steps.proofs.Sound.{lawful}
-use Rattle.simplex_steps.proofs.LineLemmas.{no_lines}
 use Rattle.sum_bounds.specs.Bounds as Bounds
-use Rattle.sum_bounds.specs.Bounds.{Told}
-use Rattle.sum_bounds.specs.Origins.{bound_on, IsOfTold}
+use Rattle.sum_bounds.specs.Bounds.{Told, bound_on}
+use Rattle.sum_bounds.specs.Origins.{IsOfTold}
 use Rattle.bound_log.specs.Told.{State, IsState, column_sums}
 use Rattle.bound_log.specs.Pending.{plain_grid}
 use Rattle.bound_log.specs.Atoms.{Knows}
 use Rattle.bound_log.specs.Resting.{AreResting}
 use Rattle.bound_log.specs.Pivots.{AddsPivots}
 use Rattle.bound_log.proofs.Lines.{sound_grid}
-use Rattle.bound_log.proofs.Runs.{lines_are_pivots, as_many_lines}
+use Rattle.bound_log.proofs.Runs.{pivots_lead, as_many_lines}
 
 -- ---- bounds in the range
 
@@ -54,16 +53,16 @@ none_next : (t : Table) (cs : List Column) (s : Step) → any_crossed cs ≡ tru
 none_next t cs s e next = let none : next_step (grid_of t cs) ≡ None = rw e refl in let z : None ≡ Some s = sym none ∙ next in absurd (cc)
 
 pivots_over : (table : List Atom) (s : State) (h : Grid) (ss : List Step) (is : ℕ → Bool) → IsState s → IsOfTold s.bounds → AreResting s.bounds s.said → Knows table s → Runs (plain_grid s) ss h → RunsFit (plain_grid s) ss
-    → HasBasis is (plain_grid s) → ArePivotsFrom (column_sums s) (IsBoundOf (Contains table)) is (lines_of (plain_grid s) ss)
-pivots_over table s h [] is state origins rests knows runs fits basis = tt
+    → HasBasis is (plain_grid s) → PivotsLead (column_sums s) (IsBoundOf (Contains table)) is (Some (plain_grid s)) (lines_of (plain_grid s) ss) (Some h)
+pivots_over table s h [] is state origins rests knows runs fits basis = subst (ComesFrom (plain_grid s)) runs begins
 pivots_over table s h (z ∷ zs) is state origins rests knows runs fits basis = by_crossing (any_crossed s.bounds.columns) refl
   where
-    by_crossing : (v : Bool) → any_crossed s.bounds.columns ≡ v → ArePivotsFrom (column_sums s) (IsBoundOf (Contains table)) is (lines_of (plain_grid s) (z ∷ zs))
+    by_crossing : (v : Bool) → any_crossed s.bounds.columns ≡ v → PivotsLead (column_sums s) (IsBoundOf (Contains table)) is (Some (plain_grid s)) (lines_of (plain_grid s) (z ∷ zs)) (Some h)
     by_crossing true e = absurd (none_next s.bounds.table s.bounds.columns z e runs.0)
     by_crossing false e =
         let ranged = are_ranged s.bounds state.bounds origins in
-        lines_are_pivots (column_sums s) (IsBoundOf (Contains table)) (plain_grid s) h (z ∷ zs) is
-        (lawful s.bounds.table s.bounds.columns origins.table (record { solution = state.bounds.solution; ranged = ranged; uncrossed = e })) ranged (sound_grid table s state origins rests knows) runs fits basis
+        pivots_lead (column_sums s) (IsBoundOf (Contains table)) (plain_grid s) (plain_grid s) h (z ∷ zs) is
+        (lawful s.bounds.table s.bounds.columns origins.table (record { solution = state.bounds.solution; ranged = ranged; uncrossed = e })) ranged (sound_grid table s state origins rests knows) runs fits basis begins
 
 lines_kept : (keep : Bool) (g : Grid) (ss : List Step) → keep ≡ true → kept_lines keep g ss ≡ lines_of g ss
 lines_kept true g ss e = refl
@@ -83,11 +82,7 @@ adds_pivots s u keep made before now state origins rests lines =
       count = λ e. ap length (lines_kept keep g lines.steps e) ∙ as_many_lines g lines.steps ∙ lines.count;
       none = λ e. kept_none keep g lines.steps e;
       pivots = λ e table is knows basis.
-          subst (ArePivotsFrom (column_sums s) (IsBoundOf (Contains table)) is) (sym (lines_kept keep g lines.steps e))
+          subst (λ ls. PivotsLead (column_sums s) (IsBoundOf (Contains table)) is (Some (plain_grid s)) ls (Some (plain_grid u))) (sym (lines_kept keep g lines.steps e))
           (pivots_over table s (plain_grid u) lines.steps is state origins rests knows lines.runs lines.fits basis);
       basis = λ e is basis. subst (λ ls. HasBasis (basis_along is ls) (plain_grid u)) (sym (lines_kept keep g lines.steps e)) (lines.basis is basis);
     }
-
--- where there is no pivot the basis stays
-pub basis_stays : (keep : Bool) (made : ℕ) (g h : Grid) (before now : List Line) (is : ℕ → Bool) → KeepsLines keep made g h before now → made ≡ 0 → HasBasis is g → HasBasis is h
-basis_stays keep made g h before now is lines none basis = subst (λ ls. HasBasis (basis_along is ls) h) (no_lines g lines.steps (lines.count ∙ none)) (lines.basis is basis)

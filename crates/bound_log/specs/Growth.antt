@@ -6,6 +6,7 @@ use Rattle.fraction128.specs.declared.TableRow.{TableRow}
 use Rattle.fraction128.specs.declared.Summand.{Summand}
 use Rattle.fraction128.specs.Grid.{is_basic}
 use Rattle.fraction128.specs.Lines.{HasBasis, first_basis}
+use Rattle.fraction128.specs.Chain.{TakesIn}
 use Rattle.smt_meaning.specs.declared.clauses.Summand as Places
 use Rattle.sum_bounds.specs.Bounds.{State}
 use Rattle.bound_log.specs.Told as Told
@@ -27,12 +28,13 @@ pub record IsProper (p : Places.Summand) : Type 0 where
 
 -- ---- the variables of a grid
 
--- the variables keep their sums, basic or not as they were, and some come after them; one more is basic exactly where its sum isn't a term alone
+-- the variables keep their sums, basic or not as they were, and some come after them; one more is basic exactly where its sum isn't a term alone; values, rows and bounds of those before stay
 pub record GrowsVariables (old new : Told.State) : Type 0 where
   pub more : List (List Summand)
   pub sums : column_sums new ≡ column_sums old ++ more
   pub stay : (i : ℕ) → i < length old.bounds.columns → is_basic new.bounds.table.rows i ≡ is_basic old.bounds.table.rows i
   pub added : (i : ℕ) → length old.bounds.columns ≤ i → i < length new.bounds.columns → is_basic new.bounds.table.rows i ≡ first_basis (column_sums new) i
+  pub taken : TakesIn (plain_grid old) (plain_grid new)
 
 -- the variables keep their sums, and the same of them are basic
 pub record KeepsVariables (old new : Told.State) : Type 0 where

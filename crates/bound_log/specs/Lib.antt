@@ -8,6 +8,7 @@ pub mod Values
 pub mod Reporting
 pub mod Implied
 pub mod Pivots
+pub mod Chained
 pub mod Clauses
 pub mod Sides
 pub mod Fractions

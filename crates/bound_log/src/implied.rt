@@ -6,12 +6,13 @@ ghost use Rattle.bound_log.specs.Atoms.{KnowsTheSame};
 ghost use Rattle.bound_log.specs.Columns.{KeepsColumns};
 ghost use Rattle.bound_log.specs.Growth.{KeepsVariables};
 ghost use Rattle.bound_log.specs.Implied.{IsTried, IsImplied};
+ghost use Rattle.bound_log.specs.Reporting.{IsClause};
+ghost use Rattle.simplex.specs.State.{KeepsValues};
 
 use crate::log::BoundLog;
-use crate::report::{Report, Reported};
+use crate::report::Report;
 use literals::Literal;
 use search_port::Lemma;
-use simplex::PivotLines;
 use std::alloc::Global;
 
 /// The clause of a conflict.
@@ -24,12 +25,23 @@ fn clause_of(report: Report) -> Option<Lemma>
     }
 }
 
-/// What the bounds break at once, without a pivot, where a literal is told, which is then taken back.
+/// A clause that the log breaks, where the bounds show one without a step.
+fn broken(bounds: &mut BoundLog, alloc: Global) -> Option<Lemma>
+    ensures same { bounds.new ≡ bounds.old }
+    ensures clause { IfSome result (IsClause bounds.old) }
+{
+    let report = bounds.look(alloc)?;
+    clause_of(report)
+}
+
+/// What the bounds break at once, without a step, where a literal is told, which is then taken back.
 fn try_literal(bounds: &mut BoundLog, alloc: Global, literal: Literal) -> Option<Lemma>
     requires numbered { literal.atom < length bounds.old.said }
     ensures stays { KnowsTheSame bounds.old bounds.new }
     ensures columns { KeepsColumns bounds.old bounds.new }
     ensures variables { KeepsVariables bounds.old bounds.new }
+    ensures table { bounds.new.bounds.table ≡ bounds.old.bounds.table }
+    ensures values { KeepsValues bounds.old.bounds.columns bounds.new.bounds.columns }
     ensures log { bounds.new.log ≡ bounds.old.log }
     ensures said { bounds.new.said ≡ bounds.old.said }
     ensures clause { IfSome result (IsTried bounds.old literal) }
@@ -38,24 +50,22 @@ fn try_literal(bounds: &mut BoundLog, alloc: Global, literal: Literal) -> Option
     let Ok(()) = bounds.tell(literal) else {
         return None;
     };
-    let mut lines = PivotLines {
-        keep: false,
-        lines: Vec::new(alloc),
-    };
-    let Reported { report, pivots: _ } = bounds.check(alloc, &mut lines, 0);
+    let found = broken(bounds, alloc);
     bounds.undo_to(count);
-    clause_of(report)
+    found
 }
 
 impl BoundLog {
     /// A clause by which an open atom follows from what is told, or by which what is told breaks the bounds, where the row of the atom's sum shows one by the bounds of its other variables.
-    /// `None` promises nothing. It may move values.
+    /// `None` promises nothing. Values stay.
     pub fn implied(&mut self, alloc: Global, atom: u32) -> Option<Lemma>
         requires numbered { atom < length self.old.said }
         requires open { (l : Signed) → l.atom ≡ atom → IsOpenIn self.old.log l }
         ensures stays { KnowsTheSame self.old self.new }
         ensures columns { KeepsColumns self.old self.new }
         ensures variables { KeepsVariables self.old self.new }
+        ensures table { self.new.bounds.table ≡ self.old.bounds.table }
+        ensures values { KeepsValues self.old.bounds.columns self.new.bounds.columns }
         ensures log { self.new.log ≡ self.old.log }
         ensures clause { IfSome result (IsImplied self.old) }
     {

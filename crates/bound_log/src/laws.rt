@@ -1,4 +1,5 @@
 //! Laws on literals told, as contracts of functions that do nothing.
+ghost use Rattle.bound_log.specs.Chained.{BoundsAreOfLog, LogIsTakenIn, ValuesStay};
 ghost use Rattle.bound_log.specs.Told.{SumsAreApart};
 ghost use Rattle.bound_log.specs.Values.{BoundsAreTold, MetAreTrue, WholesHold};
 ghost use Rattle.bound_log.specs.Fractions.{FractionsHold, LeavesHaveValues};
@@ -31,4 +32,19 @@ pub fn met_are_true()
 /// No sum has two variables.
 pub fn sums_are_apart()
     ensures { SumsAreApart }
+{}
+
+/// Each bound that stands is said by a literal told.
+pub fn bounds_are_of_log()
+    ensures { BoundsAreOfLog }
+{}
+
+/// What the literals told say of variables stands, or a tighter bound does.
+pub fn log_is_taken_in()
+    ensures { LogIsTakenIn }
+{}
+
+/// Where rows and values stay, all of the grid but its bounds does.
+pub fn values_stay()
+    ensures { ValuesStay }
 {}

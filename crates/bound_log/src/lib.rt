@@ -17,11 +17,17 @@
 //! `check`: values move by next steps of the grid until they meet all bounds told, or a clause that
 //! the log breaks is found, or a step that leaves the range or is a pivot past the room. Where
 //! lines are kept, one is added for each pivot: by Bland's rule, in a row over known atoms as
-//! above.
+//! above; these pivots, with moves between them, lead from the grid before to the grid after.
+//!
+//! `bounds_are_of_log`, `log_is_taken_in`, `values_stay`: each bound of the grid is one that a
+//! literal told says; what these say stands, or a tighter bound does; telling and taking back change
+//! nothing of the grid but its bounds.
+//!
+//! `look`: what such a check finds that takes no step, so that nothing changes.
 //!
 //! `implied`: of an open atom, where it gives one, a clause that is true under every
-//! interpretation, whose literals are false in the log but at most one, which is open; what is told
-//! stays.
+//! interpretation, whose literals are false in the log but at most one, which is open; what is told,
+//! the values and the rows stay.
 //!
 //! `spread`: numbers by term, moved as `sum_bounds` says. It promises nothing.
 //!
@@ -46,7 +52,10 @@ mod ties;
 mod variables;
 
 pub use branches::branch_lemmas;
-pub use laws::{bounds_are_told, fractions_hold, met_are_true, sums_are_apart, wholes_hold};
+pub use laws::{
+    bounds_are_of_log, bounds_are_told, fractions_hold, log_is_taken_in, met_are_true,
+    sums_are_apart, values_stay, wholes_hold,
+};
 pub use log::BoundLog;
 pub use report::{Report, Reported};
 pub use said::Said;

@@ -26,7 +26,7 @@ ghost use Rattle.bound_log.specs.Reporting.{Judges, SpendsRoom, IsClause};
 ghost use Rattle.bound_log.specs.declared.said.Said.TheVariants.{Nothing};
 
 use crate::plain::plain_sum;
-use crate::report::{Reported, report_of};
+use crate::report::{Report, Reported, report_of};
 use crate::room::shut_out;
 use crate::said::{Said, assert, said_of};
 use crate::variables::{add_leaf, variable_of};
@@ -241,7 +241,7 @@ impl BoundLog {
         }
     }
 
-    /// Moves values until the terms' values meet all bounds told, or finds a clause that the log breaks, or a step that doesn't fit or is a pivot past the room. Where lines are kept, that of each pivot is added: it is by Bland's rule, in a grid over known atoms, and from the basis that those before it leave.
+    /// Moves values until the terms' values meet all bounds told, or finds a clause that the log breaks, or a step that doesn't fit or is a pivot past the room. Where lines are kept, that of each pivot is added: it is by Bland's rule, in a grid over known atoms, and from the basis that those before it leave; they lead from the grid before to the grid after.
     pub fn check(&mut self, alloc: Global, kept: &mut PivotLines, room: u64) -> Reported
         ensures run { IsRun self.old.bounds.table self.old.bounds.columns self.new.bounds.table self.new.bounds.columns result.pivots }
         ensures log { self.new.log ≡ self.old.log }
@@ -267,6 +267,17 @@ impl BoundLog {
             report: report_of(finding),
             pivots,
         }
+    }
+
+    /// What a check finds that takes no step, so that nothing changes. `None` where the next step is to move the value of a variable that isn't basic.
+    pub fn look(&mut self, alloc: Global) -> Option<Report>
+        ensures same { self.new ≡ self.old }
+        ensures judges { IfSome result (Judges self.old) }
+    {
+        conflicts_are_valid();
+        self.bounds.facts();
+        let finding = self.bounds.look(alloc)?;
+        Some(report_of(finding))
     }
 
     /// The literal on an atom that a row leaves no room for, if one is seen. It promises nothing of the row.

@@ -5,6 +5,8 @@
 //! and `check` as in `simplex_steps`, whose conflict is told by tags. Values stay where bounds come
 //! and go; of lines, and of what isn't basic, it says as much as that.
 //!
+//! `look`: how such a check ends that takes no step; none where the next step is a move.
+//!
 //! `BoundTrail`: bounds in the order in which they were set, with tags; the tightest of a variable
 //! on a side; the newest is taken back.
 //!

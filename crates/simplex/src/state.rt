@@ -20,7 +20,7 @@ use crate::grid::copy_grid;
 use crate::{BoundTrail, Held, Set};
 use fraction128::{Bound, Column, Entry, Fraction, Grid, Line, Range, Seq, Side, Sum, Summand};
 use simplex_steps::{
-    Checked, Moved, Outcome, PivotLines, Suspects, check, line_of_pivot, moved_by,
+    Checked, Moved, Outcome, PivotLines, Suspects, check, line_of_pivot, look, moved_by,
 };
 use std::alloc::{AllocError, Global};
 use std::marker::Model;
@@ -403,5 +403,20 @@ impl Simplex {
         );
         let verdict = verdict_of(alloc, &self.trail, outcome);
         Answer { verdict, pivots }
+    }
+
+    /// How a check ends where it takes no step, so that nothing changes. `None` where the next step is to move the value of a variable that isn't basic.
+    pub fn look(&mut self, alloc: Global) -> Option<Verdict>
+        ensures same { self.new ≡ self.old }
+        ensures judges { IfSome result (Judges self.old) }
+    {
+        let outcome = look(
+            alloc,
+            &mut self.tableau,
+            &self.columns,
+            &mut self.moved,
+            &self.suspects,
+        )?;
+        Some(verdict_of(alloc, &self.trail, outcome))
     }
 }

@@ -14,6 +14,8 @@
 //! Where lines are kept, the line of each pivot comes after those before, each by the definition
 //! and of the grid at its step, which fits; each goes on from the basis that the one before it left.
 //!
+//! `look`: such an end where no step is taken; none where the next step is a move.
+//!
 //! `Suspects`: the variables among which a check looks; each other one is within its bounds, which
 //! don't cross, before a check and after it, whatever the end.
 //!
@@ -51,7 +53,7 @@ mod turn;
 
 pub use line::{PivotLines, copy_column, line_of_pivot};
 pub use moves::{Moved, moved_by};
-pub use run::{Checked, Outcome, check};
+pub use run::{Checked, Outcome, check, look};
 pub use suspects::Suspects;
 
 /// A run of next steps of n variables has fewer than 3^n pivots.

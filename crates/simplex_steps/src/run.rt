@@ -32,7 +32,7 @@
 //!
 //! What a caller may rely on is said by `check`, whatever the outcome: the bounds and the rows'
 //! solutions stay, and what isn't basic at the end stands at a bound, or has the value that it had.
-ghost use Rattle.std.specs.Prelude.{◌≡◌, ℕ, ◌+◌, ◌<◌, ◌≤◌, true, false, length, OnOk, IfOk, Some, None};
+ghost use Rattle.std.specs.Prelude.{◌≡◌, ℕ, ◌+◌, ◌<◌, ◌≤◌, true, false, length, OnOk, IfOk, IfSome, Some, None};
 ghost use Rattle.fraction128.specs.Grid.{is_crossed};
 ghost use Rattle.simplex_steps.specs.Law.{KeepsResting};
 ghost use Rattle.tableau.specs.Table.{Table};
@@ -41,7 +41,7 @@ ghost use Rattle.simplex_steps.specs.Suspects.{Covers};
 ghost use Rattle.simplex_steps.specs.Run.{Ends, SpendsRoom, Advances, IsFailed, IsUnspent, IsRun, Records, IsChecked};
 
 use crate::conflict::explain_crossed;
-use crate::find::{Found, find, first_crossed};
+use crate::find::{Found, find, first_crossed, least_outside};
 use crate::line::PivotLines;
 use crate::moves::Moved;
 use crate::suspects::{Suspects, sift};
@@ -239,5 +239,44 @@ pub fn check(
             pivots: 0,
         },
         None => check_uncrossed(alloc, tableau, columns, moved, suspects, kept, room),
+    }
+}
+
+/// How the search ends where it takes no step and no bounds cross. `None` where the next step is a move.
+fn look_uncrossed(
+    alloc: Global,
+    tableau: &mut Tableau,
+    columns: &[Column],
+    moved: &mut Vec<Moved>,
+    suspects: &Suspects,
+) -> Option<Outcome>
+    requires sound { IsSound tableau.old columns.now }
+    requires covers { Covers suspects.now columns.now }
+    ensures same { tableau.new ≡ tableau.old }
+    ensures ends { IfSome result (Ends tableau.old columns.now) }
+{
+    match least_outside(tableau, columns, suspects) {
+        Some(_) => None,
+        None => Some(last_look(alloc, tableau, columns, moved, suspects)),
+    }
+}
+
+/// How the search ends where it takes no step, so that nothing changes. `None` where the next step is a move.
+pub fn look(
+    alloc: Global,
+    tableau: &mut Tableau,
+    columns: &[Column],
+    moved: &mut Vec<Moved>,
+    suspects: &Suspects,
+) -> Option<Outcome>
+    requires solution { IsSolution tableau.old columns.now }
+    requires ranged { AreRanged columns.now }
+    requires covers { Covers suspects.now columns.now }
+    ensures same { tableau.new ≡ tableau.old }
+    ensures ends { IfSome result (Ends tableau.old columns.now) }
+{
+    match first_crossed(columns, suspects) {
+        Some(variable) => Some(crossing(alloc, columns, variable)),
+        None => look_uncrossed(alloc, tableau, columns, moved, suspects),
     }
 }

@@ -9,7 +9,7 @@ use Rattle.fraction128.specs.declared.Side.TheVariants.{Lower, Upper}
 use Rattle.simplex.specs.declared.trail.Set.{Set}
 use Rattle.simplex.specs.declared.trail.Held.{Held}
 use Rattle.simplex.specs.Trail.{tightest, held_after, held_next, held_by, tighter, is_on, same_side, set_at}
-use Rattle.sum_bounds.specs.Bounds.{MeetsSide}
+use Rattle.sum_bounds.specs.Bounds.{MeetsSide, HoldsOn}
 
 -- a bound of the list with this variable, side, number and tag
 pub record IsAmong (bs : List Set) (i : ℕ) (s : Side) (h : Held) : Type 0 where
@@ -180,3 +180,8 @@ pub meets_looser : (s : Side) (a b : ℤ) (x : Ratio) → AtLeast s a b → Meet
 unfolding AtLeast
 meets_looser Lower a b x t h = let m = mul_mono b a x.denominator t in grind (arith, ints, m)
 meets_looser Upper a b x t h = let m = mul_mono a b x.denominator t in grind (arith, ints, m)
+
+pub holds_on : (s : Side) (a b : ℤ) → AtLeast s a b → HoldsOn s b (Some a)
+unfolding AtLeast
+holds_on Lower a b t = t
+holds_on Upper a b t = t

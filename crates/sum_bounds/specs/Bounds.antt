@@ -1,5 +1,5 @@
 -- Bounds on sums of terms, told one after another, each with the literal that says it.
-use Rattle.std.specs.Prelude.{◌≡◌, ◌≢◌, ℕ, ◌+◌, ◌<◌, Bool, true, false, List, [], ◌∷◌, ◌++◌, map, length, ℤ, pos, ◌+ℤ◌, neg_ℤ, All, AllPairs, Contains, if◌then◌else◌, ◌&&◌}
+use Rattle.std.specs.Prelude.{◌≡◌, ◌≢◌, ℕ, ◌+◌, ◌<◌, Bool, true, false, List, [], ◌∷◌, ◌++◌, map, length, ℤ, pos, ◌+ℤ◌, neg_ℤ, Option, Some, All, AllPairs, Contains, if◌then◌else◌, ◌&&◌}
 use Rattle.fraction128.specs.declared.ratio.Ratio.{Ratio}
 use Rattle.fraction128.specs.declared.range.Op.TheVariants.{Add}
 use Rattle.fraction128.specs.Number.{whole, is_less}
@@ -9,6 +9,7 @@ use Rattle.fraction128.specs.declared.Column.{Column}
 use Rattle.fraction128.specs.declared.Side.{Side}
 use Rattle.fraction128.specs.declared.Side.TheVariants.{Lower, Upper}
 use Rattle.fraction128.specs.Grid.{leaf, is_turned, turned, variable_of, written_fits, entries_value, entries_value_fits, sum_row, no_coefficients}
+use Rattle.fraction128.specs.Chain.{StaysOrRises, StaysOrFalls}
 use Rattle.fraction128.specs.Lines.{NextFails, IsFloor, IsPositive, sum_value}
 use Rattle.tableau.specs.declared.failure.Failure.{Failure}
 use Rattle.tableau.specs.declared.failure.Failure.TheVariants.{Range as OutOfRange}
@@ -112,6 +113,30 @@ SpendsRoom room made (Conflict ls) = Unit {0}
 SpendsRoom room made (NoFit number) = Unit {0}
 SpendsRoom room made Memory = Unit {0}
 
+-- ---- bounds of variables
+
+-- the bound of a column on a side
+abbrev pub bound_on : Column → Side → Option ℤ
+bound_on c Lower = c.lower
+bound_on c Upper = c.upper
+
+-- the bound was told
+pub record IsToldOn (told : List Told) (i : ℕ) (side : Side) (k : ℤ) : Type 0 where
+  pub bound : Told
+  pub among : Contains told bound
+  pub variable : bound.variable ≡ i
+  pub on : bound.side ≡ side
+  pub number : bound.number ≡ k
+
+-- on the side stands the number, or a tighter one
+abbrev pub HoldsOn : Side → ℤ → Option ℤ → Type 0
+HoldsOn Lower k o = StaysOrRises (Some k) o
+HoldsOn Upper k o = StaysOrFalls (Some k) o
+
+-- the bound told stands, or a tighter one
+abbrev pub IsTakenIn : List Column → Told → Type 0
+IsTakenIn cs t = HoldsOn t.side t.number (bound_on (column_in cs t.variable) t.side)
+
 -- ---- variables
 
 -- the variable stands for the sum, or for its negation where the sum is turned
@@ -193,9 +218,11 @@ pub record IsCore (s : Simplex.State) (keys : List ℕ) (count : ℕ) (is_clean 
   pub apart : HaveOwnSums s.columns
   pub clean : is_clean ≡ true → AllMet s.columns (map told_of s.bounds)
 
--- the values meet the rows, the solutions of the rows are the valuations that give each variable its sum's value, the bounds told are of variables, and no sum has two
+-- the values meet the rows, the solutions of the rows are the valuations that give each variable its sum's value, the bounds told are of variables, no sum has two, and the bounds that stand are the tightest of those told
 pub record IsState (s : State) : Type 0 where
   pub solution : IsSolution s.table s.columns
   pub meant : IsMeant s.table.rows s.columns
   pub known : All (λ (t : Told). (t.variable < length s.columns) × InRange t.number) s.told
   pub apart : HaveOwnSums s.columns
+  pub origins : (i : ℕ) (side : Side) (k : ℤ) → i < length s.columns → bound_on (column_in s.columns i) side ≡ Some k → IsToldOn s.told i side k
+  pub taken : All (IsTakenIn s.columns) s.told

@@ -14,6 +14,9 @@
 //! rational numbers the terms have, not all of these bounds hold. The range, the room and the lines
 //! as `simplex` says them.
 //!
+//! `look`: what such a check finds that takes no step, so that nothing changes; none where the next
+//! step is a move.
+//!
 //! `whole_conflict`, `whole_conflicts_are_valid`: such literals of bounds of which, whatever whole
 //! numbers the terms have, not all hold; a clause that is true under every interpretation where
 //! each bound told is what its literal's atom says. That none is given promises nothing.

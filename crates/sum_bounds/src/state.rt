@@ -319,6 +319,16 @@ impl SumBounds {
         }
     }
 
+    /// What a check finds that takes no step, so that nothing changes. `None` where the next step is to move the value of a variable that isn't basic.
+    pub fn look(&mut self, alloc: Global) -> Option<Finding>
+        ensures same { self.new ≡ self.old }
+        ensures judges { IfSome result (Judges self.old) }
+    {
+        self.simplex.facts();
+        let verdict = self.simplex.look(alloc)?;
+        Some(finding_of(alloc, verdict))
+    }
+
     /// The rows and the variables, with their bounds and values, as a grid with nothing pending.
     pub fn grid(&self, alloc: Global) -> Result<Grid, AllocError>
         ensures { IfOk result (λ g. g ≡ grid_of self.now.table self.now.columns) }

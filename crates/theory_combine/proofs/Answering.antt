@@ -8,7 +8,6 @@ use Rattle.search_port.specs.State.{TheoryState, Variables}
 use Rattle.search_port.specs.Spending.{Spending}
 use Rattle.linear_forms.specs.Table.{AreForms, Known}
 use Rattle.bound_log.specs.Told.{State, column_sums}
-use Rattle.bound_log.specs.Growth.{KeepsVariables}
 use Rattle.closure_log.specs.Seen.{state_of}
 use Rattle.theory_combine.specs.declared.held.Held.{Held}
 use Rattle.theory_combine.specs.declared.held.Looked.{Looked}
@@ -18,6 +17,7 @@ use Rattle.theory_combine.specs.declared.parts.Parts.{Parts}
 use Rattle.theory_combine.specs.declared.parts.Progress.{Progress}
 use Rattle.theory_combine.specs.declared.step.Step.{Step}
 use Rattle.theory_combine.specs.declared.step.Step.TheVariants.{Lemmas, Conflict as StepConflict, Ended as StepEnded}
+use Rattle.theory_combine.specs.Chained.{KeepsGrid}
 use Rattle.theory_combine.specs.Columns.{variables_of}
 use Rattle.theory_combine.specs.Held.{IsHeld, IsMet}
 use Rattle.theory_combine.specs.Last.{IsLast}
@@ -58,7 +58,7 @@ ready_held p w h ready held sums = record { parts = ready.parts; under_way = hel
 pub ready_kept : (p : Parts) (w : Progress) (h : Held) → IsReady p w → KeepsHeld p.stack.now w.atoms.atoms w.held h → IsReady p (record w { held = h })
 ready_kept p w h ready keeps = ready_held p w h ready keeps.held (ap (λ (b : State). column_sums b) keeps.bounds)
 
-pub same_held : (p : Parts) (w : Progress) (h : Held) → h.closure.log.items ≡ w.held.closure.log.items → KeepsVariables w.held.bounds h.bounds → full_state p (record w { held = h }) ≡ full_state p w
+pub same_held : (p : Parts) (w : Progress) (h : Held) → h.closure.log.items ≡ w.held.closure.log.items → KeepsGrid w.held.bounds h.bounds → full_state p (record w { held = h }) ≡ full_state p w
 same_held p w h log keeps =
     ap₂ (λ (ls : List Signed) (v : Variables). with_variables (state_of p.stack.now (table_of w.lost w.atoms.atoms) ls) v) log (variables_same w.lost w.held.bounds h.bounds keeps)
 

@@ -21,17 +21,20 @@ use Rattle.search_port.specs.declared.budget.Spent.TheVariants.{Numbered}
 use Rattle.atom_form.specs.AtomNumbersAtoms.{Atoms}
 use Rattle.bound_log.specs.Told.{State, column_sums}
 use Rattle.bound_log.specs.Growth.{GrowsVariables}
+use Rattle.bound_log.specs.Pending.{plain_grid}
 use Rattle.closure_log.specs.Seen.{state_of}
 use Rattle.theory_combine.specs.declared.held.Held.{Held}
 use Rattle.theory_combine.specs.declared.parts.Parts.{Parts}
 use Rattle.theory_combine.specs.declared.parts.Progress.{Progress}
+use Rattle.theory_combine.specs.Chained.{BoundsAreSaid}
 use Rattle.theory_combine.specs.Columns.{variables_of}
 use Rattle.theory_combine.specs.Held.{IsHeld}
 use Rattle.theory_combine.specs.Numbering.{table_of, IsNumbered, IsWhole}
 use Rattle.theory_combine.specs.Progress.{full_state, state, IsProgress, IsUnderWay, Went}
 use Rattle.theory_combine.specs.Shown.{AreShown, IsLeft, IsOfCheck, IsOverLeaves, IsToShow}
 use Rattle.theory_combine.proofs.Branching.{each_longer, range_longer}
-use Rattle.theory_combine.proofs.Growing.{lines_grown, lines_numbered, none_told, pivots_on}
+use Rattle.theory_combine.proofs.Chained.{said_over}
+use Rattle.theory_combine.proofs.Growing.{lines_grown, none_told, pivots_on}
 
 pub goes_still : (t : TheoryState) (b : Spending) → length b.units ≤ b.bound → Goes t t b b
 goes_still t b within = record {
@@ -158,8 +161,10 @@ went_lost p w b c n atoms h seen shown grows u count front more log within spent
     let new : Progress = record w { atoms = atoms; lost = Some n; held = h; seen = seen } in
     let keeps : KeepsPivots (full_state p w) (full_state p new) b b =
     λ e x. record {
+      grid = x.grid;
+      of_log = record { bounds = said_over (table_of w.lost w.atoms.atoms) (take n atoms.atoms) w.held.closure.log.items h.closure.log.items x.grid table (sym log) x.of_log.bounds; variables = tt };
       lines =
-          lines_grown (table_of w.lost w.atoms.atoms) (take n atoms.atoms) (λ a k. subst (λ (t : List Atom). Contains t a) table k) (column_sums w.held.bounds) grows.more (column_sums h.bounds) (pivot_lines b.units)
+          lines_grown (table_of w.lost w.atoms.atoms) (take n atoms.atoms) (λ a k. subst (λ (t : List Atom). Contains t a) table k) (column_sums w.held.bounds) grows.more (column_sums h.bounds) (Some x.grid) b.units
           grows.sums x.lines;
       basis = none_told (basis_along (first_basis (column_sums h.bounds)) (pivot_lines b.units)) h.bounds n;
     } in (
@@ -171,14 +176,15 @@ went_lost p w b c n atoms h seen shown grows u count front more log within spent
 -- an atom more
 pub went_on : (p : Parts) (w : Progress) (b c : Spending) (n : ℕ) (a : Atom) (atoms : Atoms) (h : Held) → IsUnderWay p w → IsWhole p.stack.now p.marks.items atoms h → atoms.atoms ≡ w.atoms.atoms ++ a ∷ []
     → h.closure.log.items ≡ w.held.closure.log.items → n ≡ length w.atoms.atoms → c ≡ record b { units = b.units ++ Numbered n ∷ [] } → length b.units < b.bound
-    → AreShown p.stack.now (column_sums h.bounds) w.branches w.seen w.atoms.atoms → GrowsVariables w.held.bounds h.bounds → IsToShow p.stack.now w.branches a → Went p w (record w { atoms = atoms; held = h }) b c
-went_on p w b c n a atoms h u whole added log count spent room here grows to_show =
+    → AreShown p.stack.now (column_sums h.bounds) w.branches w.seen w.atoms.atoms → GrowsVariables w.held.bounds h.bounds → IsToShow p.stack.now w.branches a
+    → BoundsAreSaid atoms.atoms h.closure.log.items (plain_grid h.bounds) → Went p w (record w { atoms = atoms; held = h }) b c
+went_on p w b c n a atoms h u whole added log count spent room here grows to_show said =
     let shown : AreShown p.stack.now (column_sums h.bounds) w.branches w.seen atoms.atoms =
     subst (λ (t : List Atom). AreShown p.stack.now (column_sums h.bounds) w.branches w.seen t) (sym added) (shown_push p.stack.now (column_sums h.bounds) w.branches w.seen w.atoms.atoms a here to_show) in
     let same : state_of p.stack.now (w.atoms.atoms ++ a ∷ []) w.held.closure.log.items ≡ state_of p.stack.now atoms.atoms h.closure.log.items =
     ap₂ (λ (t : List Atom) (ls : List Signed). state_of p.stack.now t ls) (sym added) (sym log) in
     let front : (x : Atom) → Contains w.atoms.atoms x → Contains atoms.atoms x = λ x k. subst (λ (t : List Atom). Contains t x) (sym added) (Contains-append_left w.atoms.atoms (a ∷ []) x k) in
-    let lines : pivot_lines c.units ≡ pivot_lines b.units = ap (λ (d : Spending). pivot_lines d.units) spent ∙ lines_numbered b.units n in (
+    let units : c.units ≡ b.units ++ Numbered n ∷ [] = ap (λ (d : Spending). d.units) spent in (
       (
         u.0,
         subst (λ (o : Option ℕ). IsNumbered p.stack.now p.marks.items o atoms h) (sym u.2) whole,
@@ -187,5 +193,7 @@ went_on p w b c n a atoms h u whole added log count spent room here grows to_sho
       subst (λ (o : Option ℕ). Goes (state_of p.stack.now (table_of o w.atoms.atoms) w.held.closure.log.items) (state_of p.stack.now (table_of o atoms.atoms) h.closure.log.items) b c) (sym u.2)
           (subst (λ (t : TheoryState). Goes (state_of p.stack.now w.atoms.atoms w.held.closure.log.items) t b c) same (goes_one p.stack.now w.atoms.atoms a w.held.closure.log.items b c n count spent room to_show.ints)),
       subst (λ (o : Option ℕ). KeepsPivots (full_of p.stack.now o w.atoms.atoms w.held.closure.log.items w.held.bounds) (full_of p.stack.now o atoms.atoms h.closure.log.items h.bounds) b c) (sym u.2)
-          (λ e x. let r = pivots_on w.atoms.atoms atoms.atoms front w.held.bounds h.bounds b.units c.units grows lines x.lines x.basis in record { lines = r.0; basis = r.1 }),
+          (λ e x.
+          (let r = pivots_on w.atoms.atoms atoms.atoms front w.held.bounds h.bounds (Some x.grid) b.units c.units n grows units x.lines x.basis in
+          record { grid = plain_grid h.bounds; of_log = record { bounds = said; variables = refl }; lines = r.0; basis = r.1 })),
     )

@@ -12,19 +12,24 @@ use Rattle.fraction128.specs.declared.Line.{Line}
 use Rattle.fraction128.specs.declared.Pending.{Pending}
 use Rattle.fraction128.specs.Grid.{Step, take, pivot, is_basic, any_crossed, next_step, search_step}
 use Rattle.fraction128.specs.Lines.{Bounding, HasBasis, first_basis, exchanged, basis_along}
+use Rattle.fraction128.specs.Chain.{PivotsLead, begins, left_by, taken, unbounded}
+use Rattle.literals.specs.Signed.{Signed}
 use Rattle.smt_meaning.specs.declared.clauses.Atom.{Atom}
 use Rattle.smt_meaning.specs.CheckAtoms.{IsBoundOf}
-use Rattle.search_port.specs.Pivots.{pivot_lines, ArePivotsFrom, AreBasic}
+use Rattle.search_port.specs.Pivots.{pivot_lines, AreBasic, AreChained}
+use Rattle.search_port.specs.State.{Variables}
 use Rattle.search_port.specs.declared.budget.Spent.{Spent}
 use Rattle.search_port.specs.declared.budget.Spent.TheVariants.{Learnt, Numbered, Pivot}
-use Rattle.search_port.proofs.Pivots.{along_at, along_append, bound_by, first_longer, pivots_append, pivots_by}
+use Rattle.search_port.proofs.Pivots.{along_at, along_append, bound_by, chained_by, chained_on, chained_pivots, first_longer}
 use Rattle.simplex_steps.proofs.NextStep.{PivotFacts, step_facts}
 use Rattle.simplex_steps.proofs.Spans.{not_same}
 use Rattle.bound_log.specs.Told.{State, column_sums}
-use Rattle.bound_log.specs.Growth.{GrowsVariables, KeepsVariables}
+use Rattle.bound_log.specs.Growth.{GrowsVariables}
 use Rattle.bound_log.specs.Pending.{plain_grid}
+use Rattle.theory_combine.specs.Chained.{BoundsAreSaid, HasBoundsOf, KeepsGrid}
 use Rattle.theory_combine.specs.Columns.{basic_flags, variables_of}
 use Rattle.theory_combine.specs.Pivots.{pivot_units}
+use Rattle.theory_combine.proofs.Chained.{numbered_on, pivots_are_units, takes_none}
 
 -- ---- flags
 
@@ -77,9 +82,11 @@ pivot_within g b k c next = by_pending g.pending refl
     by_pending (Some p) e = absurd (not_take p b k c (rw e at next))
 
 -- the pivots change nothing of variables past these
-lines_within : (sums : List (List Summand)) (B : Bounding) (ls : List Line) (is js : ℕ → Bool) → ArePivotsFrom sums B is ls → (i : ℕ) → length sums ≤ i → basis_along js ls i ≡ js i
-lines_within sums B [] is js h i past = refl
-lines_within sums B (l ∷ ls) is js h i past = lines_within sums B ls (exchanged l is) (exchanged l js) h.1 i past ∙ one
+lines_within : (sums : List (List Summand)) (B : Bounding) (here there : Option Grid) (us : List Spent) (is js : ℕ → Bool) → AreChained sums B is here us there → (i : ℕ) → length sums ≤ i → basis_along js (pivot_lines us) i ≡ js i
+lines_within sums B here there [] is js h i past = refl
+lines_within sums B here there (Learnt c ∷ us) is js h i past = lines_within sums B None there us is js h i past
+lines_within sums B here there (Numbered n ∷ us) is js h i past = lines_within sums B None there us is js h i past
+lines_within sums B here there (Pivot l ∷ us) is js h i past = lines_within sums B (Some (left_by h.0)) there us (exchanged l is) (exchanged l js) h.2 i past ∙ one
   where
     one : exchanged l js i ≡ js i
     one =
@@ -91,31 +98,31 @@ lines_within sums B (l ∷ ls) is js h i past = lines_within sums B ls (exchange
 
 -- ---- variables are added
 
-pub basis_grown : (old new : State) (B : Bounding) (ls : List Line) → GrowsVariables old new → ArePivotsFrom (column_sums old) B (first_basis (column_sums old)) ls
-    → HasBasis (basis_along (first_basis (column_sums old)) ls) (plain_grid old) → HasBasis (basis_along (first_basis (column_sums new)) ls) (plain_grid new)
-basis_grown old new B ls grows pivots has i lt = elim (cases_lt i (length old.bounds.columns)) [
+pub basis_grown : (old new : State) (B : Bounding) (there : Option Grid) (us : List Spent) → GrowsVariables old new → AreChained (column_sums old) B (first_basis (column_sums old)) None us there
+    → HasBasis (basis_along (first_basis (column_sums old)) (pivot_lines us)) (plain_grid old) → HasBasis (basis_along (first_basis (column_sums new)) (pivot_lines us)) (plain_grid new)
+basis_grown old new B there us grows pivots has i lt = elim (cases_lt i (length old.bounds.columns)) [
   | inl before ↦
       let here : i < length (column_sums old) = subst (λ n. i < n) (sym (as_many old)) before in
       let first : first_basis (column_sums old) i ≡ first_basis (column_sums new) i = first_longer (column_sums old) grows.more i here ∙ ap (λ xs. first_basis xs i) (sym grows.sums) in
-      grows.stay i before ∙ has i before ∙ along_at ls (first_basis (column_sums old)) (first_basis (column_sums new)) i first
+      grows.stay i before ∙ has i before ∙ along_at (pivot_lines us) (first_basis (column_sums old)) (first_basis (column_sums new)) i first
   | inr past ↦
       let beyond : length (column_sums old) ≤ i = omega (arith, past, as_many old) in
-      grows.added i (omega (arith, past)) lt ∙ sym (lines_within (column_sums old) B ls (first_basis (column_sums old)) (first_basis (column_sums new)) pivots i beyond)
+      grows.added i (omega (arith, past)) lt ∙ sym (lines_within (column_sums old) B None there us (first_basis (column_sums old)) (first_basis (column_sums new)) pivots i beyond)
 ]
 
 -- before any pivot
 pub first_grown : (old new : State) → GrowsVariables old new → HasBasis (first_basis (column_sums old)) (plain_grid old) → HasBasis (first_basis (column_sums new)) (plain_grid new)
-first_grown old new grows has = basis_grown old new (λ sum side k. ⊥) [] grows tt has
+first_grown old new grows has = basis_grown old new (λ sum side k. ⊥) None [] grows tt has
 
 module _ (t u : List Atom) (f : (a : Atom) → Contains t a → Contains u a) where
   abbrev Over : List Atom → Bounding
   Over table = IsBoundOf (Contains table)
 
   -- the lines go on with more variables and over more atoms
-  pub lines_grown : (sums more later : List (List Summand)) (ls : List Line) → later ≡ sums ++ more → ArePivotsFrom sums (Over t) (first_basis sums) ls → ArePivotsFrom later (Over u) (first_basis later) ls
-  lines_grown sums more later ls e h =
-      subst (λ xs. ArePivotsFrom xs (Over u) (first_basis xs) ls) (sym e)
-      (pivots_by (Over t) (Over u) (bound_by (Contains t) (Contains u) f) sums more ls (first_basis sums) (first_basis (sums ++ more)) (λ i lt. first_longer sums more i lt) h)
+  pub lines_grown : (sums more later : List (List Summand)) (there : Option Grid) (us : List Spent) → later ≡ sums ++ more → AreChained sums (Over t) (first_basis sums) None us there → AreChained later (Over u) (first_basis later) None us there
+  lines_grown sums more later there us e h =
+      subst (λ xs. AreChained xs (Over u) (first_basis xs) None us there) (sym e)
+      (chained_by (Over t) (Over u) (bound_by (Contains t) (Contains u) f) sums more None there us (first_basis sums) (first_basis (sums ++ more)) (λ i lt. first_longer sums more i lt) h)
 
 -- ---- units
 
@@ -132,57 +139,62 @@ lines_pivoted (Learnt c ∷ us) ls = lines_pivoted us ls
 lines_pivoted (Numbered m ∷ us) ls = lines_pivoted us ls
 lines_pivoted (Pivot l ∷ us) ls = ap (λ (ms : List Line). l ∷ ms) (lines_pivoted us ls)
 
--- the first of some pivots are pivots
-pub first_pivots : (sums : List (List Summand)) (B : Bounding) (is : ℕ → Bool) (ls ms : List Line) → ArePivotsFrom sums B is (ls ++ ms) → ArePivotsFrom sums B is ls
-first_pivots sums B is [] ms h = tt
-first_pivots sums B is (l ∷ ls) ms h = (h.0, first_pivots sums B (exchanged l is) ls ms h.1)
-
 -- ---- pivots of a state
 
 -- variables were added, over more atoms, and no pivot was made
-pub pivots_on : (t u : List Atom) → ((a : Atom) → Contains t a → Contains u a) → (old new : State) (us vs : List Spent) → GrowsVariables old new → pivot_lines vs ≡ pivot_lines us
-    → ArePivotsFrom (column_sums old) (IsBoundOf (Contains t)) (first_basis (column_sums old)) (pivot_lines us) → AreBasic (basis_along (first_basis (column_sums old)) (pivot_lines us)) (variables_of None old)
-    → ArePivotsFrom (column_sums new) (IsBoundOf (Contains u)) (first_basis (column_sums new)) (pivot_lines vs) × AreBasic (basis_along (first_basis (column_sums new)) (pivot_lines vs)) (variables_of None new)
-pivots_on t u f old new us vs grows e lines basis = (
-  subst (λ ls. ArePivotsFrom (column_sums new) (IsBoundOf (Contains u)) (first_basis (column_sums new)) ls) (sym e) (lines_grown t u f (column_sums old) grows.more (column_sums new) (pivot_lines us) grows.sums lines),
-  subst (λ ls. AreBasic (basis_along (first_basis (column_sums new)) ls) (variables_of None new)) (sym e)
-      (basis_told (basis_along (first_basis (column_sums new)) (pivot_lines us)) new
-      (basis_grown old new (IsBoundOf (Contains t)) (pivot_lines us) grows lines (told_basis (basis_along (first_basis (column_sums old)) (pivot_lines us)) old basis))),
-)
-
--- these pivots were made
-pub pivots_made : (t : List Atom) (old new : State) (ls made : List Line) → column_sums new ≡ column_sums old
-    → ((is : ℕ → Bool) → HasBasis is (plain_grid old) → ArePivotsFrom (column_sums old) (IsBoundOf (Contains t)) is made) → ((is : ℕ → Bool) → HasBasis is (plain_grid old) → HasBasis (basis_along is made) (plain_grid new))
-    → ArePivotsFrom (column_sums old) (IsBoundOf (Contains t)) (first_basis (column_sums old)) ls → AreBasic (basis_along (first_basis (column_sums old)) ls) (variables_of None old)
-    → ArePivotsFrom (column_sums new) (IsBoundOf (Contains t)) (first_basis (column_sums new)) (ls ++ made) × AreBasic (basis_along (first_basis (column_sums new)) (ls ++ made)) (variables_of None new)
-pivots_made t old new ls made e pivots after lines basis =
-    let is : ℕ → Bool = basis_along (first_basis (column_sums old)) ls in
-    let has : HasBasis is (plain_grid old) = told_basis is old basis in (
-      subst (λ xs. ArePivotsFrom xs (IsBoundOf (Contains t)) (first_basis xs) (ls ++ made)) (sym e)
-          (pivots_append (column_sums old) (IsBoundOf (Contains t)) (first_basis (column_sums old)) ls made lines (pivots is has)),
-      subst (λ xs. AreBasic (basis_along (first_basis xs) (ls ++ made)) (variables_of None new)) (sym e)
-          (subst (λ js. AreBasic js (variables_of None new)) (sym (along_append ls made (first_basis (column_sums old)))) (basis_told (basis_along is made) new (after is has))),
+pub pivots_on : (t u : List Atom) → ((a : Atom) → Contains t a → Contains u a) → (old new : State) (there : Option Grid) (us vs : List Spent) (n : ℕ) → GrowsVariables old new → vs ≡ us ++ Numbered n ∷ []
+    → AreChained (column_sums old) (IsBoundOf (Contains t)) (first_basis (column_sums old)) None us there → AreBasic (basis_along (first_basis (column_sums old)) (pivot_lines us)) (variables_of None old)
+    → AreChained (column_sums new) (IsBoundOf (Contains u)) (first_basis (column_sums new)) None vs (Some (plain_grid new)) × AreBasic (basis_along (first_basis (column_sums new)) (pivot_lines vs)) (variables_of None new)
+pivots_on t u f old new there us vs n grows e lines basis =
+    let sums = column_sums new in
+    let same : pivot_lines vs ≡ pivot_lines us = ap pivot_lines e ∙ lines_numbered us n in (
+      subst (λ ws. AreChained sums (IsBoundOf (Contains u)) (first_basis sums) None ws (Some (plain_grid new))) (sym e)
+          (numbered_on sums (IsBoundOf (Contains u)) (first_basis sums) None there (Some (plain_grid new)) us n (lines_grown t u f (column_sums old) grows.more sums there us grows.sums lines)),
+      subst (λ ls. AreBasic (basis_along (first_basis sums) ls) (variables_of None new)) (sym same)
+          (basis_told (basis_along (first_basis sums) (pivot_lines us)) new
+          (basis_grown old new (IsBoundOf (Contains t)) there us grows lines (told_basis (basis_along (first_basis (column_sums old)) (pivot_lines us)) old basis))),
     )
 
--- ---- one after the other
+-- these pivots go on from the old bounds' grid, which takes in what the log says
+pub chained_made : (t : List Atom) (log : List Signed) (old new : State) (there : Option Grid) (us vs : List Spent) (made : List Line) (g : Grid) → column_sums new ≡ column_sums old → HasBoundsOf t log old
+    → unbounded g ≡ unbounded (plain_grid old) → BoundsAreSaid t log g → AreChained (column_sums old) (IsBoundOf (Contains t)) (first_basis (column_sums old)) None us (Some g)
+    → PivotsLead (column_sums old) (IsBoundOf (Contains t)) (basis_along (first_basis (column_sums old)) (pivot_lines us)) (Some (plain_grid old)) made there → vs ≡ us ++ pivot_units made
+    → AreChained (column_sums new) (IsBoundOf (Contains t)) (first_basis (column_sums new)) None vs there
+chained_made t log old new there us vs made g e has same said chained lead units =
+    let sums = column_sums old in
+    let B = IsBoundOf (Contains t) in
+    let first = first_basis sums in
+    let on = chained_on sums B first None g (plain_grid old) us chained (taken g (plain_grid old) begins (has.taken g same said)) in
+    subst (λ xs. AreChained xs B (first_basis xs) None vs there) (sym e)
+    (subst (λ ws. AreChained sums B first None ws there) (sym (units ∙ ap (λ ws. us ++ ws) (sym (pivots_are_units made)))) (chained_pivots sums B first None there (plain_grid old) us made on lead))
 
-pub keeps_both : (b c d : State) → KeepsVariables b c → KeepsVariables c d → KeepsVariables b d
-keeps_both b c d h k = record { sums = k.sums ∙ h.sums; basis = λ is has. k.basis is (h.basis is has) }
+-- these pivots were made
+pub pivots_made : (old new : State) (us : List Spent) (made : List Line) → column_sums new ≡ column_sums old → ((is : ℕ → Bool) → HasBasis is (plain_grid old) → HasBasis (basis_along is made) (plain_grid new))
+    → AreBasic (basis_along (first_basis (column_sums old)) (pivot_lines us)) (variables_of None old) → AreBasic (basis_along (first_basis (column_sums new)) (pivot_lines us ++ made)) (variables_of None new)
+pivots_made old new us made e after basis =
+    let ls = pivot_lines us in
+    let is : ℕ → Bool = basis_along (first_basis (column_sums old)) ls in
+    let has : HasBasis is (plain_grid old) = told_basis is old basis in
+    subst (λ xs. AreBasic (basis_along (first_basis xs) (ls ++ made)) (variables_of None new)) (sym e)
+    (subst (λ js. AreBasic js (variables_of None new)) (sym (along_append ls made (first_basis (column_sums old)))) (basis_told (basis_along is made) new (after is has)))
+
+-- ---- what stays
 
 pub grows_none : (b : State) → GrowsVariables b b
-grows_none b = record { more = []; sums = sym (append-nil (column_sums b)); stay = λ i lt. refl; added = λ i past lt. absurd (omega (arith, past, lt)) }
+grows_none b = record { more = []; sums = sym (append-nil (column_sums b)); stay = λ i lt. refl; added = λ i past lt. absurd (omega (arith, past, lt)); taken = takes_none (plain_grid b) }
 
 flags_same : (f g : ℕ → Bool) (a n : ℕ) → ((i : ℕ) → i < a + n → f i ≡ g i) → map f (range_with_len a n) ≡ map g (range_with_len a n)
 flags_same f g a zero h = refl
 flags_same f g a (suc n) h = ap₂ (λ (x : Bool) (xs : List Bool). x ∷ xs) (h a (omega arith)) (flags_same f g (a + 1) n (λ i lt. h i (omega (arith, lt))))
 
-pub variables_same : (o : Option ℕ) (b d : State) → KeepsVariables b d → variables_of o d ≡ variables_of o b
-variables_same (Some n) b d keeps = ap (λ xs. record { sums = xs; basic = None }) keeps.sums
+pub variables_same : (o : Option ℕ) (b d : State) → KeepsGrid b d → variables_of o d ≡ variables_of o b
+variables_same (Some n) b d keeps = ap (λ xs. let v : Variables = record { sums = xs; basic = None; grid = None } in v) keeps.sums
 variables_same None b d keeps =
-    ap₂ (λ (xs : List (List Summand)) (fs : List Bool). record { sums = xs; basic = Some fs }) keeps.sums
+    ap₂ (λ (xs : List (List Summand)) (fs : List Bool). let v : Variables = record { sums = xs; basic = Some fs; grid = Some (unbounded (plain_grid d)) } in v) keeps.sums
     (ap (λ n. map (is_basic d.bounds.table.rows) (range_with_len 0 n)) same
     ∙ flags_same (is_basic d.bounds.table.rows) (is_basic b.bounds.table.rows) 0 (length (column_sums b))
     (λ i lt. keeps.basis (is_basic b.bounds.table.rows) (λ j l. refl) i (subst (λ n. i < n) (sym same ∙ as_many d) (omega (arith, lt)))))
+    ∙ ap (λ (g : Grid). let v : Variables = record { sums = column_sums b; basic = Some (basic_flags b); grid = Some g } in v) keeps.grid
   where
     same : length (column_sums d) ≡ length (column_sums b)
     same = ap (λ (xs : List (List Summand)). length xs) keeps.sums

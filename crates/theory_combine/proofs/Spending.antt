@@ -6,6 +6,7 @@ use Rattle.std.proofs.lemmas.List.{append-nil, length-append, length-map, length
 use Rattle.std.proofs.lemmas.List.Elements.{All-weaker, All-append, All-map}
 use Rattle.fraction128.specs.declared.Line.{Line}
 use Rattle.fraction128.specs.Lines.{HasBasis, basis_along, first_basis}
+use Rattle.fraction128.specs.Chain.{PivotsLead}
 use Rattle.smt_meaning.specs.declared.clauses.Atom.{Atom}
 use Rattle.smt_meaning.specs.CheckAtoms.{IsBoundOf}
 use Rattle.literals.specs.Signed.{Signed}
@@ -19,7 +20,8 @@ use Rattle.search_port.specs.declared.theory.Inferred.{Inferred}
 use Rattle.search_port.specs.declared.theory.Inferred.TheVariants.{Quiet, Conflict as InferConflict, Lemmas as InferLemmas, Ended as InferEnded}
 use Rattle.search_port.specs.declared.theory.Checked.{Checked}
 use Rattle.search_port.specs.declared.theory.Checked.TheVariants.{Fine, Conflict as CheckConflict, Lemmas as CheckLemmas, Ended as CheckEnded}
-use Rattle.search_port.specs.Pivots.{pivot_lines, ArePivotsFrom, AreBasic, KeepsPivots}
+use Rattle.search_port.specs.Pivots.{pivot_lines, AreBasic, KeepsPivots}
+use Rattle.simplex_steps.specs.State.{KeepsBounds}
 use Rattle.bound_log.specs.declared.report.Report.{Report}
 use Rattle.bound_log.specs.declared.report.Report.TheVariants.{UnitsSpent}
 use Rattle.bound_log.specs.Told.{State, column_sums}
@@ -33,22 +35,25 @@ use Rattle.theory_combine.specs.declared.held.Met.TheVariants.{Spent as MetSpent
 use Rattle.theory_combine.specs.declared.held.Meeting.{Meeting}
 use Rattle.theory_combine.specs.declared.parts.Parts.{Parts}
 use Rattle.theory_combine.specs.declared.parts.Progress.{Progress}
+use Rattle.theory_combine.specs.Chained.{HasBoundsOf}
 use Rattle.theory_combine.specs.Held.{IsHeld}
 use Rattle.theory_combine.specs.Numbering.{table_of}
 use Rattle.theory_combine.specs.Pivots.{ArePivotsOf, pivot_units, SpendsPivots}
 use Rattle.theory_combine.specs.Columns.{variables_of}
 use Rattle.theory_combine.specs.Shown.{AreShown}
 use Rattle.theory_combine.specs.Progress.{full_state, state, IsUnderWay, Went}
+use Rattle.theory_combine.proofs.Chained.{LeadsWithin, first_lead, said_between, said_over}
 use Rattle.theory_combine.proofs.Going.{full_of, held_under_way, to_progress}
-use Rattle.theory_combine.proofs.Growing.{first_pivots, lines_grown, lines_pivoted, none_told, pivots_made}
+use Rattle.theory_combine.proofs.Growing.{chained_made, lines_grown, lines_pivoted, none_told, pivots_made, told_basis}
 
 -- ---- the lines of a check
 
-pub are_pivots : (old new : State) (table : List Atom) (keep : Bool) (made room : ℕ) (r : Report) (m : Meeting) → Knows table old → AddsPivots old new keep made [] m.lines.items → made ≤ room → SpendsRoom room made r
-    → (m.met ≡ MetSpent → r ≡ UnitsSpent) → ArePivotsOf old new table keep room m
-are_pivots old new table keep made room r m knows adds most spends ended = record {
-  pivots = λ e is has. subst (λ ls. ArePivotsFrom (column_sums old) (IsBoundOf (Contains table)) is ls) (sym adds.is) (adds.pivots e table is knows has);
+pub are_pivots : (old new : State) (table : List Atom) (keep : Bool) (made room : ℕ) (r : Report) (m : Meeting) → Knows table old → AddsPivots old new keep made [] m.lines.items → KeepsBounds old.bounds.columns new.bounds.columns → made ≤ room
+    → SpendsRoom room made r → (m.met ≡ MetSpent → r ≡ UnitsSpent) → ArePivotsOf old new table keep room m
+are_pivots old new table keep made room r m knows adds bounds most spends ended = record {
+  pivots = λ e is has. subst (λ ls. PivotsLead (column_sums old) (IsBoundOf (Contains table)) is (Some (plain_grid old)) ls (Some (plain_grid new))) (sym adds.is) (adds.pivots e table is knows has);
   basis = λ e is has. subst (λ ls. HasBasis (basis_along is ls) (plain_grid new)) (sym adds.is) (adds.basis e is has);
+  bounds = bounds;
   within = by keep refl;
   none = λ e. adds.is ∙ adds.none e;
   spent = λ e w. ap length adds.is ∙ adds.count e ∙ subst (SpendsRoom room made) (ended w) spends;
@@ -159,50 +164,60 @@ goes_pivots t b c ls spends room keeps =
 
 -- the bounds were met by so many pivots, all of which are spent
 pub went_by_units : (p : Parts) (w : Progress) (h : Held) (b c : Spending) (room : ℕ) (m : Meeting) → IsUnderWay p w → IsHeld p.stack.now w.atoms.atoms h → h.closure.log.items ≡ w.held.closure.log.items
-    → column_sums h.bounds ≡ column_sums w.held.bounds → ArePivotsOf w.held.bounds h.bounds w.atoms.atoms true room m → length b.units + room ≡ b.bound → SpendsPivots m.lines.items b c
-    → c.units ≡ b.units ++ pivot_units m.lines.items → b.keeps_lines ≡ true → Went p w (record w { held = h }) b c
-went_by_units p w h b c room m u held log sums are rest spends all keeps =
+    → column_sums h.bounds ≡ column_sums w.held.bounds → ArePivotsOf w.held.bounds h.bounds w.atoms.atoms true room m → HasBoundsOf w.atoms.atoms w.held.closure.log.items w.held.bounds
+    → HasBoundsOf w.atoms.atoms h.closure.log.items h.bounds → length b.units + room ≡ b.bound → SpendsPivots m.lines.items b c → c.units ≡ b.units ++ pivot_units m.lines.items → b.keeps_lines ≡ true
+    → Went p w (record w { held = h }) b c
+went_by_units p w h b c room m u held log sums are was now rest spends all keeps =
     let within : length m.lines.items ≤ room = are.within in
-    let lines : pivot_lines c.units ≡ pivot_lines b.units ++ m.lines.items = ap pivot_lines all ∙ lines_pivoted b.units m.lines.items in (
+    let lines : pivot_lines c.units ≡ pivot_lines b.units ++ m.lines.items = ap pivot_lines all ∙ lines_pivoted b.units m.lines.items in
+    let before : ℕ → Bool = basis_along (first_basis (column_sums w.held.bounds)) (pivot_lines b.units) in (
       to_progress p (record w { held = h }) (held_under_way p w h u held sums),
       subst (λ (ls : List Signed). Goes (state p w) (state_of p.stack.now (table_of w.lost w.atoms.atoms) ls) b c) (sym log) (goes_pivots (state p w) b c m.lines.items spends (omega (arith, within, rest)) keeps),
       subst (λ (o : Option ℕ). KeepsPivots (full_of p.stack.now o w.atoms.atoms w.held.closure.log.items w.held.bounds) (full_of p.stack.now o w.atoms.atoms h.closure.log.items h.bounds) b c) (sym u.2)
-          (λ e x.
-          (let r = pivots_made w.atoms.atoms w.held.bounds h.bounds (pivot_lines b.units) m.lines.items sums (are.pivots refl) (are.basis refl) x.lines x.basis in
-          record {
-            lines = subst (λ ls. ArePivotsFrom (column_sums h.bounds) (IsBoundOf (Contains w.atoms.atoms)) (first_basis (column_sums h.bounds)) ls) (sym lines) r.0;
-            basis = subst (λ ls. AreBasic (basis_along (first_basis (column_sums h.bounds)) ls) (variables_of None h.bounds)) (sym lines) r.1;
-          })),
+          (λ e x. record {
+            grid = plain_grid h.bounds;
+            of_log = record { bounds = now.said; variables = refl };
+            lines =
+                chained_made w.atoms.atoms w.held.closure.log.items w.held.bounds h.bounds (Some (plain_grid h.bounds)) b.units c.units m.lines.items x.grid sums was x.of_log.variables x.of_log.bounds x.lines
+                (are.pivots refl before (told_basis before w.held.bounds x.basis)) all;
+            basis = subst (λ ls. AreBasic (basis_along (first_basis (column_sums h.bounds)) ls) (variables_of None h.bounds)) (sym lines)
+                (pivots_made w.held.bounds h.bounds b.units m.lines.items sums (are.basis refl) x.basis);
+          }),
     )
 
 -- memory was wanting for one of them, and nothing more is held
 pub went_unspent : (p : Parts) (w : Progress) (h : Held) (b c : Spending) (room n : ℕ) (m : Meeting) → IsUnderWay p w → IsHeld p.stack.now w.atoms.atoms h → h.closure.log.items ≡ w.held.closure.log.items
-    → column_sums h.bounds ≡ column_sums w.held.bounds → ArePivotsOf w.held.bounds h.bounds w.atoms.atoms true room m → length b.units + room ≡ b.bound → SpendsPivots m.lines.items b c
-    → n ≡ length w.atoms.atoms → b.keeps_lines ≡ true → Went p w (record w { held = h; lost = Some n }) b c
-went_unspent p w h b c room n m u held log sums are rest spends count keeps =
+    → column_sums h.bounds ≡ column_sums w.held.bounds → ArePivotsOf w.held.bounds h.bounds w.atoms.atoms true room m → HasBoundsOf w.atoms.atoms w.held.closure.log.items w.held.bounds → length b.units + room ≡ b.bound
+    → SpendsPivots m.lines.items b c → n ≡ length w.atoms.atoms → b.keeps_lines ≡ true → Went p w (record w { held = h; lost = Some n }) b c
+went_unspent p w h b c room n m u held log sums are was rest spends count keeps =
     let within : length m.lines.items ≤ room = are.within in
     let first : List Line = take spends.count m.lines.items in
-    let table : table_of w.lost w.atoms.atoms ≡ take n w.atoms.atoms = ap (λ (o : Option ℕ). table_of o w.atoms.atoms) u.2 ∙ sym (ap (λ k. take k w.atoms.atoms) count ∙ take_all w.atoms.atoms) in
+    let atoms : w.atoms.atoms ≡ take n w.atoms.atoms = sym (ap (λ k. take k w.atoms.atoms) count ∙ take_all w.atoms.atoms) in
+    let table : table_of w.lost w.atoms.atoms ≡ take n w.atoms.atoms = ap (λ (o : Option ℕ). table_of o w.atoms.atoms) u.2 ∙ atoms in
     let same : state p w ≡ state_of p.stack.now (take n w.atoms.atoms) h.closure.log.items = ap₂ (λ (t : List Atom) (ls : List Signed). state_of p.stack.now t ls) table (sym log) in
-    let lines : pivot_lines c.units ≡ pivot_lines b.units ++ first = ap (λ (d : Spending). pivot_lines d.units) spends.is ∙ lines_pivoted b.units first in
     let shown : AreShown p.stack.now (column_sums h.bounds) w.branches w.seen (take n w.atoms.atoms) =
-    subst (λ (t : List Atom). AreShown p.stack.now (column_sums h.bounds) w.branches w.seen t) (sym (ap (λ k. take k w.atoms.atoms) count ∙ take_all w.atoms.atoms))
-    (subst (λ xs. AreShown p.stack.now xs w.branches w.seen w.atoms.atoms) (sym sums) u.3) in
-    let over : (a : Atom) → Contains w.atoms.atoms a → Contains (take n w.atoms.atoms) a =
-    λ a k. subst (λ (t : List Atom). Contains t a) (sym (ap (λ j. take j w.atoms.atoms) count ∙ take_all w.atoms.atoms)) k in (
+    subst (λ (t : List Atom). AreShown p.stack.now (column_sums h.bounds) w.branches w.seen t) atoms (subst (λ xs. AreShown p.stack.now xs w.branches w.seen w.atoms.atoms) (sym sums) u.3) in
+    let over : (a : Atom) → Contains w.atoms.atoms a → Contains (take n w.atoms.atoms) a = λ a k. subst (λ (t : List Atom). Contains t a) atoms k in
+    let before : ℕ → Bool = basis_along (first_basis (column_sums w.held.bounds)) (pivot_lines b.units) in (
       (u.0, omega (arith, count), shown),
       subst (λ (t : TheoryState). Goes (state p w) t b c) same (goes_pivots (state p w) b c m.lines.items spends (omega (arith, within, rest)) keeps),
       subst (λ (o : Option ℕ). KeepsPivots (full_of p.stack.now o w.atoms.atoms w.held.closure.log.items w.held.bounds) (full_state p (record w { held = h; lost = Some n })) b c) (sym u.2)
           (λ e x.
-          (let r = pivots_made w.atoms.atoms w.held.bounds h.bounds (pivot_lines b.units) m.lines.items sums (are.pivots refl) (are.basis refl) x.lines x.basis in
-          let fewer : ArePivotsFrom (column_sums h.bounds) (IsBoundOf (Contains w.atoms.atoms)) (first_basis (column_sums h.bounds)) (pivot_lines b.units ++ first) =
-          first_pivots (column_sums h.bounds) (IsBoundOf (Contains w.atoms.atoms)) (first_basis (column_sums h.bounds)) (pivot_lines b.units ++ first) (drop spends.count m.lines.items)
-          (subst (λ ls. ArePivotsFrom (column_sums h.bounds) (IsBoundOf (Contains w.atoms.atoms)) (first_basis (column_sums h.bounds)) ls)
-          (ap (λ ls. pivot_lines b.units ++ ls) (sym (take-append-drop spends.count m.lines.items)) ∙ sym (append_assoc (pivot_lines b.units) first (drop spends.count m.lines.items))) r.0) in
+          (let whole = are.pivots refl before (told_basis before w.held.bounds x.basis) in
+          let part : LeadsWithin (column_sums w.held.bounds) (IsBoundOf (Contains w.atoms.atoms)) before (plain_grid w.held.bounds) (plain_grid h.bounds) first =
+          first_lead (column_sums w.held.bounds) (IsBoundOf (Contains w.atoms.atoms)) before (plain_grid w.held.bounds) (plain_grid h.bounds) first (drop spends.count m.lines.items)
+          (subst (λ ls. PivotsLead (column_sums w.held.bounds) (IsBoundOf (Contains w.atoms.atoms)) before (Some (plain_grid w.held.bounds)) ls (Some (plain_grid h.bounds))) (sym (take-append-drop spends.count m.lines.items)) whole) in
           record {
+            grid = part.grid;
+            of_log = record {
+              bounds = said_over w.atoms.atoms (take n w.atoms.atoms) w.held.closure.log.items h.closure.log.items part.grid atoms (sym log)
+                  (said_between w.atoms.atoms w.held.closure.log.items (plain_grid w.held.bounds) part.grid (plain_grid h.bounds) part.earlier part.later are.bounds was.said);
+              variables = tt;
+            };
             lines =
-                lines_grown w.atoms.atoms (take n w.atoms.atoms) over (column_sums h.bounds) [] (column_sums h.bounds) (pivot_lines c.units) (sym (append-nil (column_sums h.bounds)))
-                (subst (λ ls. ArePivotsFrom (column_sums h.bounds) (IsBoundOf (Contains w.atoms.atoms)) (first_basis (column_sums h.bounds)) ls) (sym lines) fewer);
+                lines_grown w.atoms.atoms (take n w.atoms.atoms) over (column_sums h.bounds) [] (column_sums h.bounds) (Some part.grid) c.units (sym (append-nil (column_sums h.bounds)))
+                (chained_made w.atoms.atoms w.held.closure.log.items w.held.bounds h.bounds (Some part.grid) b.units c.units first x.grid sums was x.of_log.variables x.of_log.bounds x.lines part.lead
+                (ap (λ (d : Spending). d.units) spends.is));
             basis = none_told (basis_along (first_basis (column_sums h.bounds)) (pivot_lines c.units)) h.bounds n;
           })),
     )

@@ -1,7 +1,9 @@
 -- The variables of bounds, as those of leaves and of a table's atoms.
 use Rattle.std.specs.List.{range_with_len}
 use Rattle.std.specs.Prelude.{ℕ, Bool, List, map, length, ◌++◌, pos, All, Option, Some, None}
+use Rattle.fraction128.specs.declared.Grid.{Grid}
 use Rattle.fraction128.specs.Grid.{is_basic}
+use Rattle.fraction128.specs.Chain.{unbounded}
 use Rattle.smt_meaning.specs.declared.clauses.Atom.{Atom}
 use Rattle.smt_meaning.specs.StackCommand.{Stack}
 use Rattle.smt_meaning.specs.Boxes.{term_at_most}
@@ -10,6 +12,7 @@ use Rattle.smt_laws.specs.Flat.{flat}
 use Rattle.search_port.specs.State.{Variables}
 use Rattle.bound_log.specs.Told.{State, column_sums}
 use Rattle.bound_log.specs.Columns.{HasColumnsOf}
+use Rattle.bound_log.specs.Pending.{plain_grid}
 
 -- a bound on the leaf alone
 abbrev pub bound_on : ℕ → Atom
@@ -29,10 +32,14 @@ pub record HasKnownColumns (s : Stack) (table : List Atom) (b : State) : Type 0 
 abbrev pub basic_flags : State → List Bool
 basic_flags b = map (is_basic b.bounds.table.rows) (range_with_len 0 (length (column_sums b)))
 
--- what is told of the variables: once an atom was lost, no longer which are basic
+-- what is told of the variables: once an atom was lost, no longer which are basic, nor their values and rows
 abbrev pub variables_of : Option ℕ → State → Variables
-variables_of lost b = record { sums = column_sums b; basic = by_loss lost }
+variables_of lost b = record { sums = column_sums b; basic = by_loss lost; grid = grid_by lost }
   where
     by_loss : Option ℕ → Option (List Bool)
     by_loss None = Some (basic_flags b)
     by_loss (Some n) = None
+
+    grid_by : Option ℕ → Option Grid
+    grid_by None = Some (unbounded (plain_grid b))
+    grid_by (Some n) = None

@@ -2,6 +2,7 @@ pub mod Combined
 pub mod StateCode
 pub mod Argument
 pub mod Begin
+pub mod Chained
 pub mod Columns
 pub mod Errors
 pub mod Found

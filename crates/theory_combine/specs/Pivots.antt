@@ -1,11 +1,12 @@
 -- Pivots as units of a check of the bounds.
-use Rattle.std.specs.Prelude.{◌≡◌, ℕ, ◌≤◌, Bool, true, false, List, [], ◌++◌, map, take, length, Contains}
+use Rattle.std.specs.Prelude.{◌≡◌, ℕ, ◌≤◌, Bool, true, false, List, [], ◌++◌, map, take, length, Contains, Some}
 use Rattle.fraction128.specs.declared.Line.{Line}
 use Rattle.fraction128.specs.Lines.{HasBasis, basis_along}
+use Rattle.fraction128.specs.Chain.{PivotsLead}
 use Rattle.smt_meaning.specs.declared.clauses.Atom.{Atom}
 use Rattle.smt_meaning.specs.CheckAtoms.{IsBoundOf}
+use Rattle.simplex_steps.specs.State.{KeepsBounds}
 use Rattle.search_port.specs.Spending.{Spending}
-use Rattle.search_port.specs.Pivots.{ArePivotsFrom}
 use Rattle.search_port.specs.declared.budget.Spent.{Spent as SpentUnit}
 use Rattle.search_port.specs.declared.budget.Spent.TheVariants.{Pivot}
 use Rattle.bound_log.specs.Told.{State, column_sums}
@@ -14,10 +15,11 @@ use Rattle.theory_combine.specs.declared.held.Met.{Met}
 use Rattle.theory_combine.specs.declared.held.Met.TheVariants.{Fits, Conflict, Past, Spent, Ended}
 use Rattle.theory_combine.specs.declared.held.Meeting.{Meeting}
 
--- where lines are kept, those of at most so many pivots over these atoms from the old bounds to the new ones, and of so many where there was no room for another
+-- where lines are kept, those of at most so many pivots over these atoms, which lead from the old bounds' grid to that of the new ones, and of so many where there was no room for another; bounds stay
 pub record ArePivotsOf (old new : State) (table : List Atom) (keep : Bool) (room : ℕ) (m : Meeting) : Type 0 where
-  pub pivots : keep ≡ true → (is : ℕ → Bool) → HasBasis is (plain_grid old) → ArePivotsFrom (column_sums old) (IsBoundOf (Contains table)) is m.lines.items
+  pub pivots : keep ≡ true → (is : ℕ → Bool) → HasBasis is (plain_grid old) → PivotsLead (column_sums old) (IsBoundOf (Contains table)) is (Some (plain_grid old)) m.lines.items (Some (plain_grid new))
   pub basis : keep ≡ true → (is : ℕ → Bool) → HasBasis is (plain_grid old) → HasBasis (basis_along is m.lines.items) (plain_grid new)
+  pub bounds : KeepsBounds old.bounds.columns new.bounds.columns
   pub within : length m.lines.items ≤ room
   pub none : keep ≡ false → m.lines.items ≡ []
   pub spent : keep ≡ true → m.met ≡ Spent → length m.lines.items ≡ room

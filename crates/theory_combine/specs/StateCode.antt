@@ -4,6 +4,8 @@ use Rattle.std.specs.Coded.{Coded, code_by, coded×, coded_ℕ, coded_bool, code
 use Rattle.literals.specs.Signed.{Signed}
 use Rattle.fraction128.specs.declared.Summand.{Summand}
 use Rattle.fraction128.specs.contracts.Summand as summand
+use Rattle.fraction128.specs.declared.Grid.{Grid}
+use Rattle.fraction128.specs.contracts.Grid as grid
 use Rattle.smt_meaning.specs.declared.clauses.Atom.{Atom}
 use Rattle.smt_meaning.specs.contracts.clauses.Atom as atom
 use Rattle.smt_meaning.specs.Term.{Tree}
@@ -17,7 +19,8 @@ signed_code = code_by (ℕ × Bool) (coded× coded_ℕ coded_bool) (λ (l : Sign
 
 abbrev pub variables_code : Coded Variables
 variables_code =
-    code_by (List (List Summand) × Option (List Bool)) (coded× (coded_list (coded_list summand.the_row.coded)) (coded_option (coded_list coded_bool))) (λ (v : Variables). (v.sums, v.basic)) (λ p. record { sums = p.0; basic = p.1 }) (λ _. refl)
+    code_by (List (List Summand) × (Option (List Bool) × Option Grid)) (coded× (coded_list (coded_list summand.the_row.coded)) (coded× (coded_option (coded_list coded_bool)) (coded_option grid.the_row.coded)))
+    (λ (v : Variables). (v.sums, (v.basic, v.grid))) (λ p. record { sums = p.0; basic = p.1.0; grid = p.1.1 }) (λ _. refl)
 
 abbrev pub state_code : Coded TheoryState
 state_code =

@@ -6,10 +6,10 @@ ghost use Rattle.search_port.specs.Calls.{AssertedBy, InferredBy, IsConflict};
 ghost use Rattle.search_port.specs.Spending.{Spending};
 ghost use Rattle.bound_log.specs.Atoms.{Knows};
 ghost use Rattle.bound_log.specs.Told.{column_sums};
-ghost use Rattle.bound_log.specs.Growth.{KeepsVariables};
 ghost use Rattle.bound_log.specs.Reporting.{Judges};
 ghost use Rattle.bound_log.specs.declared.report.Report.TheVariants.{UnitsSpent};
 ghost use Rattle.closure_log.specs.Seen.{state_of};
+ghost use Rattle.theory_combine.specs.Chained.{HasBoundsOf, KeepsGrid};
 ghost use Rattle.theory_combine.specs.Errors.{IsErrorOver};
 ghost use Rattle.theory_combine.specs.Held.{IsHeld, IsMet, IsMetBy};
 ghost use Rattle.theory_combine.specs.Kept.{IsHeldOf, KeepsHeld};
@@ -21,7 +21,7 @@ use crate::differences::Differences;
 use crate::errors::{BoundError, untold};
 use crate::untrue::untrue_constant;
 use atom_form::AtomNumbers;
-use bound_log::{BoundLog, Report, Reported};
+use bound_log::{BoundLog, Report, Reported, bounds_are_of_log, log_is_taken_in, values_stay};
 use closure_log::{ClosureLog, Guide, Scan, Watches, infer};
 use fraction128::{Grid, Line};
 use literals::Literal;
@@ -86,9 +86,10 @@ pub(crate) fn tell_both(
     ensures held { IsHeld stack.now atoms.now.atoms held.new }
     ensures answer { IfOk result (AssertedBy (state_of stack.now atoms.now.atoms held.old.closure.log.items) (state_of stack.now atoms.now.atoms held.new.closure.log.items) literal) }
     ensures stays { OnErr result (held.new.closure.log.items ≡ held.old.closure.log.items) }
-    ensures variables { KeepsVariables held.old.bounds held.new.bounds }
+    ensures variables { KeepsGrid held.old.bounds held.new.bounds }
     ensures err { IfErr result (IsErrorOver (column_sums held.new.bounds) atoms.now.atoms) }
 {
+    values_stay();
     let place = held.closure.log.len();
     match held.bounds.tell(literal) {
         Err(failure) => Err(untold(alloc, &held.bounds, atoms, literal, failure)),
@@ -112,8 +113,9 @@ pub(crate) fn undo_both(held: &mut Held, stack: &Stack, atoms: &AtomNumbers, cou
     requires { IsHeld stack.now atoms.now.atoms held.old }
     ensures held { IsHeld stack.now atoms.now.atoms held.new }
     ensures log { held.new.closure.log.items ≡ take count held.old.closure.log.items }
-    ensures variables { KeepsVariables held.old.bounds held.new.bounds }
+    ensures variables { KeepsGrid held.old.bounds held.new.bounds }
 {
+    values_stay();
     held.closure.undo_to(stack, atoms, count);
     held.bounds.undo_to(count);
     held.scan.restart();
@@ -158,13 +160,19 @@ pub(crate) fn meet_bounds(
     ensures sums { column_sums held.new.bounds ≡ column_sums held.old.bounds }
     ensures met { IsMet held.new.bounds (state_of stack.now atoms.now.atoms held.new.closure.log.items) result.met }
     ensures lines { ArePivotsOf held.old.bounds held.new.bounds atoms.now.atoms keep room result }
+    ensures before { HasBoundsOf atoms.now.atoms held.old.closure.log.items held.old.bounds }
+    ensures after { HasBoundsOf atoms.now.atoms held.new.closure.log.items held.new.bounds }
 {
     flat_says_the_same();
+    bounds_are_of_log();
+    log_is_taken_in();
+    held.bounds.facts();
     let mut kept = PivotLines {
         keep,
         lines: Vec::new(alloc),
     };
     let Reported { report, pivots: _ } = held.bounds.check(alloc, &mut kept, room);
+    held.bounds.facts();
     let met = met_by(alloc, &held.bounds, report);
     let PivotLines { lines, .. } = kept;
     Meeting { met, lines }

@@ -4,13 +4,14 @@ ghost use Rattle.search_port.specs.Calls.{InferredBy};
 ghost use Rattle.search_port.specs.Spending.{Spending};
 ghost use Rattle.search_port.specs.State.{TheoryState};
 ghost use Rattle.congruence.specs.Implied.{IsPressingLemma};
-ghost use Rattle.bound_log.specs.Growth.{KeepsVariables};
 ghost use Rattle.closure_log.specs.Seen.{state_of};
+ghost use Rattle.theory_combine.specs.Chained.{KeepsGrid};
 ghost use Rattle.theory_combine.specs.Held.{IsHeld};
 ghost use Rattle.theory_combine.specs.Kept.{IsHeldOf};
 
 use crate::held::Held;
 use atom_form::AtomNumbers;
+use bound_log::values_stay;
 use closure_log::{inferred, is_open, keep};
 use scope_stack::Stack;
 use search_port::{Cause, Inferred, Lemma};
@@ -54,10 +55,11 @@ fn look_at(
     requires numbered { atom < length atoms.now.atoms }
     ensures held { IsHeld stack.now atoms.now.atoms held.new }
     ensures log { held.new.closure.log.items ≡ held.old.closure.log.items }
-    ensures variables { KeepsVariables held.old.bounds held.new.bounds }
+    ensures variables { KeepsGrid held.old.bounds held.new.bounds }
     ensures found { IfSome result (IsPressingLemma (state_of stack.now atoms.now.atoms held.new.closure.log.items)) }
 {
     flat_says_the_same();
+    values_stay();
     if !is_open(&held.scan.places, &held.closure.log, atom) {
         return None;
     }
@@ -86,7 +88,7 @@ pub(crate) fn follow_rows(
     requires { IsHeldOf stack.now atoms.now.atoms held.old }
     ensures held { IsHeld stack.now atoms.now.atoms held.new }
     ensures log { held.new.closure.log.items ≡ held.old.closure.log.items }
-    ensures variables { KeepsVariables held.old.bounds held.new.bounds }
+    ensures variables { KeepsGrid held.old.bounds held.new.bounds }
     ensures found { (b c : Spending) → InferredBy (state_of stack.now atoms.now.atoms held.new.closure.log.items) b c result }
 {
     let mut clauses = Vec::new(alloc);

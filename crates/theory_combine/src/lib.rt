@@ -18,6 +18,11 @@
 //! line. No more pivots are made than units may be spent, and a call that needs another ends with
 //! all of them spent.
 //!
+//! These pivots hang together over the calls: each begins from the grid that the one right before it
+//! left, with what the log says taken in and values moved, and the last one led on to the grid that
+//! there is, whose bounds the log says. After a new atom the chain begins anew. Telling and taking
+//! back change nothing of the grid but its bounds.
+//!
 //! Where two applications clash, the values are moved apart within all bounds, and tried once more.
 //! A model is given only where, evaluated, it makes every literal told true. Of each branch, at a
 //! value that meets all that stands, the row is kept, so that each atom is one of the check with the

@@ -15,7 +15,7 @@ use crate::errors::{BoundError, know_bound, know_other, seen_of};
 use crate::held::Held;
 use crate::parts::{Pair, Parts, Progress};
 use atom_form::{AtomNumbers, CompactAtom};
-use bound_log::{BoundLog, sums_are_apart};
+use bound_log::{BoundLog, bounds_are_of_log, sums_are_apart};
 use closure_log::what_was_told_stays;
 use search_port::{Budget, Cause, Spent};
 use smt_meaning::Summand;
@@ -118,6 +118,7 @@ pub(crate) fn number_new(
     let added = add(parts, &mut progress.atoms, &mut progress.held, atom);
     progress.held.bounds.facts();
     sums_are_apart();
+    bounds_are_of_log();
     match added {
         Err(error) => {
             progress.seen = seen_of(error);

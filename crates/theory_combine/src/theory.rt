@@ -37,7 +37,7 @@ impl<'s> Model for Combined<'s> {
 impl<'s> Combined<'s> {
     ghost use Rattle.std.specs.Prelude.{◌≡◌, [], None, IfOk, IfErr};
     ghost use Rattle.fraction128.specs.Lines.{first_basis};
-    ghost use Rattle.search_port.specs.Pivots.{AreBasic};
+    ghost use Rattle.search_port.specs.Pivots.{AreBasic, ArePivots};
     ghost use Rattle.check_atoms.specs.Marks.{AreStackParts};
     ghost use Rattle.check_atoms.specs.OfStack.{AreCheckAtoms};
     ghost use Rattle.linear_forms.specs.Table.{AreForms};
@@ -91,6 +91,7 @@ impl<'s> Combined<'s> {
         ensures reading { IfOk result (λ theory. theory.reading ≡ (state_of stack.now parts.atoms.atoms []).reading) }
         ensures log { IfOk result (λ theory. theory.log ≡ []) }
         ensures basis { IfOk result (λ theory. AreBasic (first_basis theory.variables.sums) theory.variables) }
+        ensures pivots { IfOk result (λ theory. ArePivots theory []) }
         ensures err { IfErr result (IsErrorSeen stack.now) }
     {
         let wide_xors = wide_xors(alloc, stack, &parts.marks)?;

@@ -1,25 +1,34 @@
-use Rattle.std.proofs.Common.{◌∙◌, subst, arith}
-use Rattle.bound_log.specs.Reporting.{Judges}
+use Rattle.std.proofs.Common.{◌∙◌, sym, ap, subst}
+use Rattle.simplex.specs.State.{KeepsValues}
+use Rattle.bound_log.specs.Told.{State}
+use Rattle.bound_log.specs.Atoms.{Knows}
+use Rattle.bound_log.specs.Columns.{HasColumnsOf}
+use Rattle.bound_log.specs.Growth.{KeepsVariables}
 use Rattle.bound_log.proofs.Implying.{if_some, tried_by}
-use Rattle.bound_log.proofs.KeptVariables.{kept_through}
-use Rattle.bound_log.proofs.Pivots.{basis_stays}
+use Rattle.bound_log.proofs.KeptVariables.{kept_through, values_kept, values_through}
 use Rattle.bound_log.proofs.implied.try_literal.Goals as goal
 
 pub returns-clause-clause : goal.returns-clause-clause
 returns-clause-clause c =
-    if_some c.clause_of.result
-    (λ d e. tried_by c.args.bounds.now c.check-report.new.self c.args.literal d (λ ts k. c.check-report.ensures.stays ts (c.tell.ensures.stays ts k)) (c.check-report.ensures.log ∙ c.in-Ok.ensures.ok.log)
-    (subst (Judges c.check-report.new.self) e c.check-report.ensures.judges))
-    c.clause_of.ensures
+    if_some c.broken-found.result (λ d h. tried_by c.args.bounds.now c.tell.new.self c.args.literal d (λ ts k. c.tell.ensures.stays ts k) c.in-Ok.ensures.ok.log h) c.broken-found.ensures.clause
+
+pub returns-clause-stays : goal.returns-clause-stays
+returns-clause-stays c = λ table knows. c.undo_to.ensures.stays table (subst (Knows table) (sym c.broken-found.ensures.same) (c.tell.ensures.stays table knows))
 
 pub returns-clause-columns : goal.returns-clause-columns
-returns-clause-columns c = λ table has. c.undo_to.ensures.columns table (c.check-report.ensures.columns table (c.tell.ensures.columns table has))
+returns-clause-columns c = λ table has. c.undo_to.ensures.columns table (subst (HasColumnsOf table) (sym c.broken-found.ensures.same) (c.tell.ensures.columns table has))
 
 pub returns-clause-variables : goal.returns-clause-variables
 returns-clause-variables c =
-    let checked = c.check-report in
-    kept_through c.args.bounds.now checked.new.self c.undo_to.new.self
-    (kept_through c.args.bounds.now c.tell.new.self checked.new.self c.tell.ensures.variables (record {
-      sums = checked.ensures.sums;
-      basis = λ is basis. basis_stays _ checked.result.pivots _ _ _ _ is checked.ensures.lines (omega (arith, checked.ensures.most)) basis;
-    })) c.undo_to.ensures.variables
+    kept_through c.args.bounds.now c.broken-found.new.bounds c.undo_to.new.self (subst (KeepsVariables c.args.bounds.now) (sym c.broken-found.ensures.same) c.tell.ensures.variables) c.undo_to.ensures.variables
+
+pub returns-clause-table : goal.returns-clause-table
+returns-clause-table c = c.undo_to.ensures.undone.table ∙ ap (λ (s : State). s.bounds.table) c.broken-found.ensures.same ∙ c.in-Ok.ensures.ok.table
+
+pub returns-clause-values : goal.returns-clause-values
+returns-clause-values c =
+    values_through c.args.bounds.now.bounds.columns c.broken-found.new.bounds.bounds.columns c.undo_to.new.self.bounds.columns
+    (subst (λ (s : State). KeepsValues c.args.bounds.now.bounds.columns s.bounds.columns) (sym c.broken-found.ensures.same) c.in-Ok.ensures.ok.values) c.undo_to.ensures.undone.values
+
+pub returns-in_default-clause-values : goal.returns-in_default-clause-values
+returns-in_default-clause-values c = ?

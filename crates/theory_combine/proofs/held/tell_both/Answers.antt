@@ -8,7 +8,7 @@ use Rattle.closure_log.specs.Places.{ArePlaces}
 use Rattle.theory_combine.specs.declared.held.Held.{Held}
 use Rattle.theory_combine.specs.Held.{IsHeld}
 use Rattle.theory_combine.proofs.Holding.{ended_same, front_of}
-use Rattle.theory_combine.proofs.Growing.{keeps_both}
+use Rattle.theory_combine.proofs.Chained.{keeps_both, keeps_grid, keeps_same}
 use Rattle.theory_combine.proofs.Telling.{keeps_known, told_more}
 use Rattle.theory_combine.proofs.held.tell_both.Goals as goal
 
@@ -63,4 +63,19 @@ pub returns-in-Err-clause-err : goal.returns-in-Err-clause-err
 returns-in-Err-clause-err c = c.untold.ensures
 
 pub returns-in-Ended-clause-variables : goal.returns-in-Ended-clause-variables
-returns-in-Ended-clause-variables c = keeps_both c.args.held.now.bounds c.tell.new.self c.undo_to.new.self c.tell.ensures.variables c.undo_to.ensures.variables
+returns-in-Ended-clause-variables c =
+    let law = c.values_stay.ensures in
+    keeps_both c.args.held.now.bounds c.tell.new.self c.undo_to.new.self
+    (keeps_grid law c.args.held.now.bounds c.tell.new.self c.tell.ensures.variables c.in-Ok.ensures.ok.table c.in-Ok.ensures.ok.values)
+    (keeps_grid law c.tell.new.self c.undo_to.new.self c.undo_to.ensures.variables c.undo_to.ensures.undone.table c.undo_to.ensures.undone.values)
+
+pub returns-in-Taken-clause-variables : goal.returns-in-Taken-clause-variables
+returns-in-Taken-clause-variables c =
+    keeps_grid c.values_stay.ensures c.args.held.now.bounds c.tell.new.self c.tell.ensures.variables c.in-Ok.ensures.ok.table c.in-Ok.ensures.ok.values
+
+pub returns-in-Conflict-clause-variables : goal.returns-in-Conflict-clause-variables
+returns-in-Conflict-clause-variables c =
+    keeps_grid c.values_stay.ensures c.args.held.now.bounds c.tell.new.self c.tell.ensures.variables c.in-Ok.ensures.ok.table c.in-Ok.ensures.ok.values
+
+pub returns-in-Err-clause-variables : goal.returns-in-Err-clause-variables
+returns-in-Err-clause-variables c = keeps_same c.args.held.now.bounds c.tell.new.self c.in-Err.ensures.err

@@ -3,7 +3,7 @@ use Rattle.literals.specs.Signed.{Signed}
 use Rattle.search_port.specs.State.{TheoryState}
 use Rattle.congruence.specs.Implied.{IsPressingLemma}
 use Rattle.closure_log.specs.Seen.{state_of}
-use Rattle.theory_combine.proofs.Growing.{keeps_both}
+use Rattle.theory_combine.proofs.Chained.{keeps_both}
 use Rattle.theory_combine.proofs.implied.follow_rows.Goals as goal
 
 pub returns-then-len-eq-GIVEN-clause-found : goal.returns-then-len-eq-GIVEN-clause-found

@@ -1,6 +1,7 @@
 use Rattle.std.proofs.Common.{◌∙◌, List, sym, subst}
 use Rattle.literals.specs.Signed.{Signed}
 use Rattle.search_port.specs.State.{IsOpenIn}
+use Rattle.theory_combine.proofs.Chained.{keeps_grid}
 use Rattle.theory_combine.proofs.Following.{if_some, implied_met}
 use Rattle.theory_combine.proofs.implied.look_at.Goals as goal
 
@@ -13,3 +14,6 @@ returns-clause-found c =
     if_some c.implied.result
     (λ d i. implied_met c.flat_says_the_same.ensures c.args.stack.now c.args.atoms.now.atoms c.args.held.now d c.requires.held.setting c.requires.held.held i)
     c.implied.ensures.clause
+
+pub returns-clause-variables : goal.returns-clause-variables
+returns-clause-variables c = keeps_grid c.values_stay.ensures c.args.held.now.bounds c.implied.new.self c.implied.ensures.variables c.implied.ensures.table c.implied.ensures.values

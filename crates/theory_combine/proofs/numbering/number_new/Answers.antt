@@ -1,7 +1,10 @@
-use Rattle.std.proofs.Common.{rules, ◌≡◌, ◌++◌, ◌∷◌, [], refl, sym, subst, arith}
+use Rattle.std.proofs.Common.{rules, ◌≡◌, ◌++◌, ◌∷◌, [], List, refl, sym, subst, arith}
 use Rattle.std.specs.Prelude.{Option, IfSome}
 use Rattle.smt_meaning.specs.declared.reports.RangeSeen.{RangeSeen}
+use Rattle.literals.specs.Signed.{Signed}
 use Rattle.bound_log.specs.Told.{column_sums}
+use Rattle.bound_log.specs.Pending.{plain_grid}
+use Rattle.theory_combine.specs.Chained.{BoundsAreSaid}
 use Rattle.theory_combine.specs.Numbering.{atom_of}
 use Rattle.theory_combine.specs.Shown.{AreShown, IsLeft}
 use Rattle.theory_combine.proofs.Going.{shown_longer, shown_push, shown_seen, went_still, went_lost, went_on}
@@ -53,3 +56,5 @@ returns-in-Ok-spend-clause-went c =
     let here : AreShown s (column_sums b) w.branches w.seen w.atoms.atoms = shown_longer s (column_sums w.held.bounds) grows.more (column_sums b) w.branches w.seen w.atoms.atoms grows.sums known c.requires.under_way.3 in
     went_on c.args.parts.now w c.args.budget.now c.spend.new.self c.len-count.result a c.add-added.new.atoms c.add-added.new.held c.requires.under_way c.in-Ok.ensures.whole c.in-Ok.ensures.ok
     c.add-added.ensures.log c.len-count.ensures.count c.in-Ok-spend.ensures.spent (let r = c.room.ensures in let f = c.if-room-eq0.false in grind arith) here grows c.requires.to_show
+    (subst (λ (ls : List Signed). BoundsAreSaid c.add-added.new.atoms.atoms ls (plain_grid b)) c.in-Ok.ensures.whole.held.same
+    (c.bounds_are_of_log.ensures c.add-added.new.atoms.atoms b c.facts.ensures c.in-Ok.ensures.whole.held.knows))

@@ -8,7 +8,7 @@ pub returns-in-Ok-clause-went : goal.returns-in-Ok-clause-went
 returns-in-Ok-clause-went c =
     let met = c.meet_bounds-met in
     went_by_units c.args.parts.now c.args.progress.now met.new.held c.args.budget.now c.spend_pivots.new.budget c.room-room.result met.result c.requires.ready.under_way met.ensures.held met.ensures.log met.ensures.sums
-    met.ensures.lines c.room-room.ensures c.spend_pivots.ensures.spent c.in-Ok.ensures.every c.requires.keeps
+    met.ensures.lines met.ensures.before met.ensures.after c.room-room.ensures c.spend_pivots.ensures.spent c.in-Ok.ensures.every c.requires.keeps
 
 pub returns-in-Ok-clause-met : goal.returns-in-Ok-clause-met
 returns-in-Ok-clause-met c =
@@ -23,4 +23,4 @@ pub returns-in-Err-clause-went : goal.returns-in-Err-clause-went
 returns-in-Err-clause-went c =
     let met = c.meet_bounds-met in
     went_unspent c.args.parts.now c.args.progress.now met.new.held c.args.budget.now c.spend_pivots.new.budget c.room-room.result c.len.result met.result c.requires.ready.under_way met.ensures.held met.ensures.log met.ensures.sums
-    met.ensures.lines c.room-room.ensures c.spend_pivots.ensures.spent c.len.ensures.count c.requires.keeps
+    met.ensures.lines met.ensures.before c.room-room.ensures c.spend_pivots.ensures.spent c.len.ensures.count c.requires.keeps
