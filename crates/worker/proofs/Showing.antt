@@ -7,6 +7,7 @@ use Rattle.std.proofs.lemmas.List.Elements.{All-nil, All-head, All-tail, All-wea
 use Rattle.literals.specs.Signed.{Signed}
 use Rattle.clause_store.specs.Stored.{Kept, Stored}
 use Rattle.fraction128.specs.declared.Summand.{Summand}
+use Rattle.fraction128.specs.declared.Line.{Line}
 use Rattle.fraction128.specs.declared.Column.{Column}
 use Rattle.fraction128.specs.declared.Grid.{Grid}
 use Rattle.fraction128.specs.Grid.{column_at}
