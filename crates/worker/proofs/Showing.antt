@@ -115,44 +115,6 @@ past_range flatly s t x seen trees frames h is =
       leaves = subst (λ (o : Option RangeSeen). IfSome o (LeavesRange s.trees s.frames t.variables.sums (IsCheckAtom s.trees s.frames x.branches))) is shown.seen;
     }
 
--- ---- pivots among units
-
-abbrev IsUnbounded : Variables → Type 0
-IsUnbounded v = IfSome v.grid (λ g. unbounded g ≡ g)
-
-none_stands : (cs : List Column) (i : ℕ) (d : Column) → d.lower ≡ None → d.upper ≡ None → ((get_or (map unbounded_column cs) i d).lower ≡ None) × ((get_or (map unbounded_column cs) i d).upper ≡ None)
-none_stands [] i d l u = (l, u)
-none_stands (c ∷ cs) zero d l u = (refl, refl)
-none_stands (c ∷ cs) (suc i) d l u = none_stands cs i d l u
-
-none_or_some : {X : Type 0} (o : Option ℤ) (k : ℤ) → o ≡ None → o ≡ Some k → X
-none_or_some o k n e = let z : None ≡ Some k = sym n ∙ e in absurd (cc)
-
--- before any pivot
-pub before_any : (t : TheoryState) → AreBasic (first_basis t.variables.sums) t.variables → IsUnbounded t.variables → ArePivots t []
-before_any t basis free = by t.variables.grid refl
-  where
-    by : (o : Option Grid) → t.variables.grid ≡ o → ArePivots t []
-    by None e = record {
-      grid = record { columns = []; rows = []; pending = None };
-      of_log = record { bounds = λ i lt. absurd (omega (arith, lt)); variables = subst (λ o. IfSome o (λ h. unbounded (record { columns = []; rows = []; pending = None }) ≡ h)) (sym e) tt };
-      lines = tt;
-      basis = basis;
-    }
-    by (Some g) e =
-        let same : unbounded g ≡ g = subst (λ o. IfSome o (λ h. unbounded h ≡ h)) e free in
-        let none : (i : ℕ) → ((column_at g i).lower ≡ None) × ((column_at g i).upper ≡ None) = λ i.
-        subst (λ h. ((column_at h i).lower ≡ None) × ((column_at h i).upper ≡ None)) same (none_stands g.columns i _ refl refl) in
-        record {
-          grid = g;
-          of_log = record {
-            bounds = λ i lt. record { lower = λ k b. none_or_some (column_at g i).lower k (none i).0 b; upper = λ k b. none_or_some (column_at g i).upper k (none i).1 b };
-            variables = subst (λ o. IfSome o (λ h. unbounded g ≡ h)) (sym e) same;
-          };
-          lines = tt;
-          basis = basis;
-        }
-
 -- ---- units with their atoms written out hang together as they do
 
 module _ (sums : List (List Summand)) (B : Bounding) (table : List Atom) (level : ℕ) where
