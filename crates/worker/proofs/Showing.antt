@@ -1,5 +1,5 @@
 -- What a search over a stack shows where it ends without an answer.
-use Rattle.std.proofs.Common.{◌≡◌, inl, inr, ◌⊎◌, ℕ, zero, suc, ◌+◌, ◌<◌, Bool, true, false, not, ◌||◌, List, [], ◌∷◌, ◌++◌, map, length, All, Contains, get_or, subst, sym, ap, ◌∙◌, arith, refl}
+use Rattle.std.proofs.Common.{◌≡◌, inl, inr, ◌⊎◌, ℕ, suc, ◌+◌, ◌<◌, Bool, true, false, not, ◌||◌, List, [], ◌∷◌, ◌++◌, map, length, All, Contains, get_or, subst, sym, ap, ◌∙◌, arith, refl}
 use Rattle.std.specs.Prelude.{ℤ, Option, Some, None, IfSome}
 use Rattle.std.specs.List.{range_with_len}
 use Rattle.std.proofs.lemmas.List.{append-nil, length-map, length-append}
@@ -8,11 +8,9 @@ use Rattle.literals.specs.Signed.{Signed}
 use Rattle.clause_store.specs.Stored.{Kept, Stored}
 use Rattle.fraction128.specs.declared.Summand.{Summand}
 use Rattle.fraction128.specs.declared.Line.{Line}
-use Rattle.fraction128.specs.declared.Column.{Column}
 use Rattle.fraction128.specs.declared.Grid.{Grid}
-use Rattle.fraction128.specs.Grid.{column_at}
 use Rattle.fraction128.specs.Lines.{Bounding, exchanged, first_basis}
-use Rattle.fraction128.specs.Chain.{left_by, unbounded, unbounded_column}
+use Rattle.fraction128.specs.Chain.{left_by}
 use Rattle.smt_meaning.specs.declared.clauses.Atom.{Atom}
 use Rattle.smt_meaning.specs.declared.clauses.Atom.TheVariants.{Truth}
 use Rattle.smt_meaning.specs.declared.clauses.Literal.{Literal}
@@ -26,13 +24,13 @@ use Rattle.smt_meaning.specs.CheckAtoms.{IsBoundOf, IsCheckAtom}
 use Rattle.smt_meaning.specs.Ranges.{LeavesRange}
 use Rattle.smt_meaning.specs.Report.{IsPastRange, IsUnit, AreUnits, AreChained, is_unlimited, most_units}
 use Rattle.scope_stack.specs.Shown.{IsLawful}
-use Rattle.search_port.specs.State.{Reading, TheoryState, Variables, IsGrown, atom_at}
+use Rattle.search_port.specs.State.{Reading, TheoryState, IsGrown, atom_at}
 use Rattle.search_port.specs.Showing.{IsShowing}
 use Rattle.search_port.specs.Spending.{Spending}
 use Rattle.search_port.specs.Valid.{FollowsAt, FollowsAsWritten}
 use Rattle.search_port.specs.Forcing.{ForcesByNumbers, ForcesInTurn}
 use Rattle.search_port.specs.Calls.{IsNoPivot, numbers}
-use Rattle.search_port.specs.Pivots.{AreBasic, ArePivots, AreChained as AreChainedSpent}
+use Rattle.search_port.specs.Pivots.{ArePivots, AreChained as AreChainedSpent}
 use Rattle.search_port.specs.declared.shown.Showing.{Showing}
 use Rattle.search_port.specs.declared.budget.Spent.{Spent}
 use Rattle.search_port.specs.declared.budget.Spent.TheVariants.{Learnt, Numbered, Pivot}
