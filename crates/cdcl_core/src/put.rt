@@ -1,12 +1,10 @@
 //! Clauses that are put down as units: those that are learnt, and right after a pivot one of the
 //! theory or of the hook for which decisions are taken back.
-ghost use Rattle.std.specs.Prelude.{◌≡◌, ℕ, ◌<◌, ◌≤◌, true, false, length, IfErr, OnErr, OnOk};
-ghost use Rattle.literals.specs.Signed.{opposite};
-ghost use Rattle.smt_meaning.specs.Forced.{Forces};
+ghost use Rattle.std.specs.Prelude.{◌≡◌, ◌<◌, ◌≤◌, true, false, length, IfErr, OnErr, OnOk};
 ghost use Rattle.search_port.specs.Pivots.{EndsOtherwise};
 ghost use Rattle.conflict_learn.specs.Learning.{HaveOwnAtoms};
 ghost use Rattle.cdcl_core.specs.Search.{AreAddable, AreKeptSame, GainsClause, HasClause, HasSame, IsAddable, Stands};
-ghost use Rattle.cdcl_core.specs.Turns.{Adds, EndsPut, HaltsBy, IsAccounted, IsPartly, PivotsAdded};
+ghost use Rattle.cdcl_core.specs.Turns.{Adds, EndsPut, HaltsBy, IsAccounted, IsChained, IsPartly, PivotsAdded, StandsWithin};
 
 use crate::insert::{add_at, insert, know_atoms};
 use crate::own::distinct;
@@ -89,9 +87,8 @@ pub fn put_down<T: Theory>(
     clause: Lemma,
     wish: u32,
 ) -> Result<(), Cause>
-    requires stands { Stands store.old (T.state theory.old) }
+    requires within { StandsWithin store.old (T.state theory.old) budget.old }
     requires addable { IsAddable (T.state theory.old).reading clause }
-    requires spent { length budget.old.units ≤ budget.old.limit }
     ensures stands { Stands store.new (T.state theory.new) }
     ensures reading { (T.state theory.new).reading ≡ (T.state theory.old).reading }
     ensures variables { (T.state theory.new).variables ≡ (T.state theory.old).variables }
@@ -116,8 +113,7 @@ pub fn put_down<T: Theory>(
 
 // Whether decisions may be taken back only once a unit more is spent: right after a pivot, where learnt clauses count.
 fn is_chained(budget: &Budget) -> bool
-    ensures counts { result ≡ true → budget.now.counts_learnt ≡ true }
-    ensures pivot { result ≡ true → EndsOtherwise budget.now.units → ⊥ }
+    ensures chained { result ≡ true → IsChained budget.now }
     ensures otherwise { result ≡ false → budget.now.counts_learnt ≡ true → EndsOtherwise budget.now.units }
 {
     budget.counts_learnt() && budget.ends_with_pivot()
@@ -132,13 +128,11 @@ fn add_own<T: Theory>(
     budget: &mut Budget,
     clause: Lemma,
 ) -> Result<(), Halt>
-    requires stands { Stands store.old (T.state theory.old) }
+    requires within { StandsWithin store.old (T.state theory.old) budget.old }
     requires known { store.old.trail.atoms ≡ length (T.state theory.old).reading.table }
     requires addable { IsAddable (T.state theory.old).reading clause }
     requires own_atoms { HaveOwnAtoms clause.literals }
-    requires spent { length budget.old.units ≤ budget.old.limit }
-    requires counts { budget.old.counts_learnt ≡ true }
-    requires pivot { EndsOtherwise budget.old.units → ⊥ }
+    requires chained { IsChained budget.old }
     ensures adds { Adds store.old store.new (T.state theory.old) (T.state theory.new) budget.old budget.new }
     ensures pivots { PivotsAdded (T.state theory.old) (T.state theory.new) budget.old budget.new result }
     ensures kept { OnOk result (HasClause store.new.clauses clause.literals) }
@@ -172,11 +166,9 @@ fn add_chained<T: Theory>(
     budget: &mut Budget,
     clause: Lemma,
 ) -> Result<(), Halt>
-    requires stands { Stands store.old (T.state theory.old) }
+    requires within { StandsWithin store.old (T.state theory.old) budget.old }
     requires addable { IsAddable (T.state theory.old).reading clause }
-    requires spent { length budget.old.units ≤ budget.old.limit }
-    requires counts { budget.old.counts_learnt ≡ true }
-    requires pivot { EndsOtherwise budget.old.units → ⊥ }
+    requires chained { IsChained budget.old }
     ensures adds { Adds store.old store.new (T.state theory.old) (T.state theory.new) budget.old budget.new }
     ensures pivots { PivotsAdded (T.state theory.old) (T.state theory.new) budget.old budget.new result }
     ensures kept { OnOk result (HasSame store.new.clauses clause.literals) }
@@ -201,9 +193,8 @@ pub fn add_one<T: Theory>(
     clause: Lemma,
     wish: u32,
 ) -> Result<(), Halt>
-    requires stands { Stands store.old (T.state theory.old) }
+    requires within { StandsWithin store.old (T.state theory.old) budget.old }
     requires addable { IsAddable (T.state theory.old).reading clause }
-    requires spent { length budget.old.units ≤ budget.old.limit }
     ensures adds { Adds store.old store.new (T.state theory.old) (T.state theory.new) budget.old budget.new }
     ensures pivots { PivotsAdded (T.state theory.old) (T.state theory.new) budget.old budget.new result }
     ensures kept { OnOk result (HasSame store.new.clauses clause.literals) }
@@ -227,9 +218,8 @@ pub fn add_all<T: Theory>(
     budget: &mut Budget,
     clauses: Seq<Lemma>,
 ) -> Result<(), Halt>
-    requires stands { Stands store.old (T.state theory.old) }
+    requires within { StandsWithin store.old (T.state theory.old) budget.old }
     requires addable { AreAddable (T.state theory.old).reading clauses }
-    requires spent { length budget.old.units ≤ budget.old.limit }
     ensures adds { Adds store.old store.new (T.state theory.old) (T.state theory.new) budget.old budget.new }
     ensures pivots { PivotsAdded (T.state theory.old) (T.state theory.new) budget.old budget.new result }
     ensures kept { OnOk result (AreKeptSame store.new.clauses clauses) }

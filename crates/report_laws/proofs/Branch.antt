@@ -29,7 +29,7 @@ use Rattle.smt_meaning.specs.Boxes.{asserted_atoms, negation_at_most}
 use Rattle.smt_meaning.specs.CheckAtoms.{IsPartOfStack, IsLeaf, IsFirstAtom, IsKnownSum, IsBoundOf, IsStanding, Meets, IsReached, IsBranch}
 use Rattle.report_laws.specs.Sum.{x, y}
 use Rattle.report_laws.specs.Branch.{nought, one, sum, low, least, trees, frames, both, sums, halved, row, grid_at, at_half, at_minus_half, HalfIsABranch, MinusHalfIsNone}
-use Rattle.report_laws.proofs.TwoLeaves.{below_three, table_of, zero_fraction, one_fraction, minus_fraction, minus_one_is, one_not_none, minus_not_none, leaf_value, some_is, none_is, basic_is, sound_grid}
+use Rattle.report_laws.proofs.TwoLeaves.{below_three, leaf_at, stack_table, zero_fraction, one_fraction, minus_fraction, minus_one_is, one_not_none, minus_not_none, leaf_value, some_is, none_is, basic_is, sound_grid}
 use Rattle.report_laws.proofs.Listed.{in_cons, in_none}
 use Rattle.report_laws.proofs.Boxed.{negation_is, leaf_is}
 
@@ -54,10 +54,7 @@ sum_part : IsPartOfStack frames sum
 sum_part = record { assertion = low; asserted = (0, omega arith, refl); part = inr (inr (inl (inl refl))) }
 
 x_leaf : IsLeaf trees frames 0
-x_leaf = record { leaf = x; part = record { part = x_part; int = refl; place_is = refl }; is = refl }
-
-y_leaf : IsLeaf trees frames 1
-y_leaf = record { leaf = y; part = record { part = y_part; int = refl; place_is = refl }; is = refl }
+x_leaf = leaf_at trees frames x 0 x_part refl refl refl
 
 abbrev minus_both : List Terms.Summand
 minus_both = record { coefficient = negsuc 1; term = 0 } ∷ record { coefficient = negsuc 0; term = 1 } ∷ []
@@ -72,7 +69,7 @@ unfolding gcd_of
 nought_atom = inr (inl (record { left = nought; right = sum; left_part = nought_part; right_part = sum_part; one_sort = refl; among = (1, omega arith, refl) }))
 
 table : AreSums (IsKnownSum trees frames) sums
-table = table_of both refl (IsKnownSum trees frames) (IsKnownSum.of_leaf 0 x_leaf refl) (IsKnownSum.of_leaf 1 y_leaf refl) (IsKnownSum.of_atom minus_both (negsuc 0) one_atom refl)
+table = stack_table trees frames both refl x_leaf (leaf_at trees frames y 1 y_part refl refl refl) minus_both (negsuc 0) one_atom refl
 
 -- ---- halves
 

@@ -1,5 +1,5 @@
 -- What is known of the least value of x on the stack of (assert (<= 5 x)).
-use Rattle.std.proofs.Common.{◌≡◌, ℕ, ℤ, pos, Bool, true, false, List, [], ◌∷◌, Some, None, refl, ap, subst, arith, ◌&&◌}
+use Rattle.std.proofs.Common.{◌≡◌, ℕ, ℤ, pos, Bool, true, false, List, [], ◌∷◌, Option, Some, None, refl, ap, subst, arith, ◌&&◌}
 use Rattle.std.specs.Prelude.{◌≤ℤ◌, ◌<ℤ◌, int_le, length, IsTrue}
 use Rattle.std.proofs.lemmas.Int.{ints}
 use Rattle.std.proofs.lemmas.List.Elements.{All-nil, All-cons, All-head}
@@ -10,11 +10,11 @@ use Rattle.smt_meaning.specs.Interpretation.{Interprets, IsFunctionFor, meaning}
 use Rattle.smt_meaning.specs.Stack.{Frame, Satisfies}
 use Rattle.smt_meaning.specs.Model.{Fits}
 use Rattle.smt_meaning.specs.Goal.{is_itself, least_number}
-use Rattle.smt_meaning.specs.Least.{IsModelFor, value_in}
+use Rattle.smt_meaning.specs.Least.{IsBest, IsModelFor, value_in}
 use Rattle.smt_meaning.specs.Report.{AreReports, AreAllSpent, Shows}
-use Rattle.report_laws.specs.Five.{x, low, frames, constant_x}
+use Rattle.report_laws.specs.Five.{x, low, trees, frames, constant_x}
 use Rattle.report_laws.specs.Cores.{nothing_spent}
-use Rattle.report_laws.specs.Minimum.{text, x_is, FiveIsLeast, NothingElseIsLeast, wanted_memory, SevenMayBeBest, SevenMayBeBestOfTwo, OneOfTwoIsNoBest, NoBoundFromAbove, NoModelWithoutBound, NothingBelowFive, NothingSpentIsNoBest}
+use Rattle.report_laws.specs.Minimum.{text, best, x_is, FiveIsLeast, NothingElseIsLeast, wanted_memory, SevenMayBeBest, SevenMayBeBestOfTwo, OneOfTwoIsNoBest, NoBoundFromAbove, NoModelWithoutBound, NothingBelowFive, NothingSpentIsNoBest}
 
 -- ---- the assertion, and that x is itself
 
@@ -93,11 +93,16 @@ too_few_reports ts fs limit r h =
     let counts : ◌≡◌ {A = ℕ} 1 2 = ap (length {A = ℕ}) h.one_each in
     absurd (omega (arith, counts))
 
+-- reports that show nothing of any stack are those of no best
+none_is_best : (workers : ℕ) (limit : ℤ) (rs : List Report) → ((ts : List Tree) (fs : List Frame) → AreReports workers ts fs limit rs → ⊥)
+    → (i : Option (List Table)) (b : Option ℤ) → IsBest workers trees frames limit text x (best i b rs) → ⊥
+none_is_best workers limit rs none None None r = none _ _ r
+none_is_best workers limit rs none None (Some b) r = absurd r
+none_is_best workers limit rs none (Some i) None r = none _ _ r.2
+none_is_best workers limit rs none (Some i) (Some b) r = none _ _ r.2
+
 pub one_of_two_is_none : OneOfTwoIsNoBest
-one_of_two_is_none limit None None r h = too_few_reports _ _ limit r h
-one_of_two_is_none limit None (Some b) r h = absurd h
-one_of_two_is_none limit (Some i) None r h = too_few_reports _ _ limit r h.2
-one_of_two_is_none limit (Some i) (Some b) r h = too_few_reports _ _ limit r h.2
+one_of_two_is_none limit i b r = none_is_best 2 limit (r ∷ []) (λ ts fs h. too_few_reports ts fs limit r h) i b
 
 pub no_bound_from_above : NoBoundFromAbove
 no_bound_from_above workers limit i b rs h r = absurd (omega (arith, ints, h, r.1))
@@ -119,7 +124,4 @@ unspent workers ts fs others r =
     absurd (omega (arith, none_spent))
 
 pub nothing_spent_is_none : NothingSpentIsNoBest
-nothing_spent_is_none workers None None others r = unspent workers _ _ others r
-nothing_spent_is_none workers None (Some b) others r = absurd r
-nothing_spent_is_none workers (Some i) None others r = unspent workers _ _ others r.2
-nothing_spent_is_none workers (Some i) (Some b) others r = unspent workers _ _ others r.2
+nothing_spent_is_none workers i b others = none_is_best workers (pos 5) (nothing_spent ∷ others) (λ ts fs r. unspent workers ts fs others r) i b

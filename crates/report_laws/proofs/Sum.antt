@@ -18,13 +18,13 @@ use Rattle.fraction128.specs.declared.Side.TheVariants.{Lower}
 use Rattle.fraction128.specs.Grid.{leaf, move, column_at, is_basic, value_at, MeetsRow}
 use Rattle.fraction128.specs.Lines.{Bounding, AreSums, HasSum, IsBoundedBy, IsResting, IsEntry, IsRow, IsSoundGrid, NextFails, IsPivotIn, first_basis, exchanged, sum_value, IsPositive, pivot_line}
 use Rattle.fraction128.proofs.RowValue.{dot}
-use Rattle.report_laws.proofs.TwoLeaves.{below_three, table_of, zero_fraction, one_fraction, minus_fraction, minus_one_is, one_not_none, minus_not_none, leaf_value, some_is, none_is, basic_is, sound_grid}
+use Rattle.report_laws.proofs.TwoLeaves.{below_three, leaf_at, stack_table, zero_fraction, one_fraction, minus_fraction, minus_one_is, one_not_none, minus_not_none, leaf_value, some_is, none_is, basic_is, sound_grid}
 use Rattle.fraction128.proofs.SumValues.{sum_positive_value, number_sum_value, number_leaf}
 use Rattle.smt_meaning.specs.declared.clauses.Summand as Terms
 use Rattle.smt_meaning.specs.declared.clauses.Atom.{Atom}
 use Rattle.smt_meaning.specs.declared.clauses.Atom.TheVariants.{AtMost}
 use Rattle.smt_meaning.specs.declared.reports.Unit.TheVariants.{Pivot}
-use Rattle.smt_meaning.specs.CheckAtoms.{IsPartOfStack, IsLeaf, IsFirstAtom, IsKnownSum, IsCheckAtom, IsBoundOf}
+use Rattle.smt_meaning.specs.CheckAtoms.{IsPartOfStack, IsFirstAtom, IsKnownSum, IsCheckAtom, IsBoundOf}
 use Rattle.smt_meaning.specs.Ranges.{IsOnAtom}
 use Rattle.smt_meaning.specs.Report.{no_units, one_more_unit}
 use Rattle.report_laws.specs.Sum.{greatest, x, y, end, sum, low, trees, frames, both, entry, row, grid_of, moving, pivoting, minus_entry, back_row, least, back, to_and_fro, sums, SumIsPast, OnePivot, EachIsAPivot}
@@ -46,12 +46,6 @@ end_part = record { assertion = low; asserted = (0, omega arith, refl); part = i
 sum_part : IsPartOfStack frames sum
 sum_part = record { assertion = low; asserted = (0, omega arith, refl); part = inr (inr (inl (inl refl))) }
 
-x_leaf : IsLeaf trees frames 0
-x_leaf = record { leaf = x; part = record { part = x_part; int = refl; place_is = refl }; is = refl }
-
-y_leaf : IsLeaf trees frames 1
-y_leaf = record { leaf = y; part = record { part = y_part; int = refl; place_is = refl }; is = refl }
-
 abbrev minus_one : ℕ → Terms.Summand
 minus_one t = record { coefficient = negsuc 0; term = t }
 
@@ -72,7 +66,7 @@ unfolding gcd_of
 sum_atom = inr (inl (record { left = end; right = sum; left_part = end_part; right_part = sum_part; one_sort = refl; among = (1, omega arith, refl) }))
 
 table : AreSums (IsKnownSum trees frames) sums
-table = table_of both refl (IsKnownSum trees frames) (IsKnownSum.of_leaf 0 x_leaf refl) (IsKnownSum.of_leaf 1 y_leaf refl) (IsKnownSum.of_atom (minus_one 0 ∷ minus_one 1 ∷ []) minus_end sum_atom refl)
+table = stack_table trees frames both refl (leaf_at trees frames x 0 x_part refl refl refl) (leaf_at trees frames y 1 y_part refl refl refl) (minus_one 0 ∷ minus_one 1 ∷ []) minus_end sum_atom refl
 
 -- ---- the grids
 

@@ -13,8 +13,16 @@ use Rattle.fraction128.specs.declared.Grid.{Grid}
 use Rattle.fraction128.specs.Number.{whole, SameNumber}
 use Rattle.fraction128.specs.Ratio.{IsFraction}
 use Rattle.fraction128.specs.Gcd.{gcd_of}
-use Rattle.fraction128.specs.Grid.{leaf, column_at, is_basic, value_at, MeetsRow}
+use Rattle.fraction128.specs.Grid.{leaf, turned, column_at, is_basic, value_at, MeetsRow}
 use Rattle.fraction128.specs.Lines.{Bounding, AreSums, HasSum, IsBoundedBy, IsResting, IsRow, IsSoundGrid, sum_value, IsPositive}
+use Rattle.smt_meaning.specs.declared.values.Sort.TheVariants.{Int as Ints}
+use Rattle.smt_meaning.specs.declared.clauses.Summand as Terms
+use Rattle.smt_meaning.specs.declared.clauses.Atom.TheVariants.{AtMost}
+use Rattle.smt_meaning.specs.Term.{Tree}
+use Rattle.smt_meaning.specs.TreeShape.{place_of}
+use Rattle.smt_meaning.specs.Signature.{tree_sort}
+use Rattle.smt_meaning.specs.Stack.{Frame, signature_of}
+use Rattle.smt_meaning.specs.CheckAtoms.{IsPartOfStack, IsLeaf, IsFirstAtom, IsKnownSum, grid_sum, is_leaf}
 
 -- what holds of 0, 1 and 2 holds of each number below 3
 pub below_three : (P : ℕ → Type 0) → P 0 → P 1 → P 2 → (i : ℕ) → i < 3 → P i
@@ -52,13 +60,22 @@ module _ (both : List Summand) (two : length both ≡ 2) where
   apart (suc (suc i)) (suc (suc zero)) d lt lj e = omega (arith, lt)
   apart i (suc (suc (suc j))) d lt lj e = omega (arith, lj)
 
-  pub table_of : (Known : List Summand → Type 0) → Known (leaf 0) → Known (leaf 1) → Known both → AreSums Known (leaf 0 ∷ leaf 1 ∷ both ∷ [])
+  table_of : (Known : List Summand → Type 0) → Known (leaf 0) → Known (leaf 1) → Known both → AreSums Known (leaf 0 ∷ leaf 1 ∷ both ∷ [])
   table_of Known x y s = record {
     apart = λ i j d lt lj. apart i j d lt lj;
     filled = All-cons (λ (ps : List Summand). ps ≢ []) (leaf 0) (leaf 1 ∷ both ∷ []) (filled _ _)
         (All-cons (λ (ps : List Summand). ps ≢ []) (leaf 1) (both ∷ []) (filled _ _) (All-cons (λ (ps : List Summand). ps ≢ []) both [] both_filled (All-nil _)));
     known = All-cons Known (leaf 0) (leaf 1 ∷ both ∷ []) x (All-cons Known (leaf 1) (both ∷ []) y (All-cons Known both [] s (All-nil _)));
   }
+
+-- a leaf of the stack at this place
+pub leaf_at : (ts : List Tree) (frames : List Frame) (t : Tree) (place : ℕ) → IsPartOfStack frames t → tree_sort (signature_of frames) t ≡ Some Ints → place_of t ts ≡ place → is_leaf t ≡ true → IsLeaf ts frames place
+leaf_at ts frames t place part int place_is is = record { leaf = t; part = record { part = part; int = int; place_is = place_is }; is = is }
+
+-- both leaves are the stack's, and the sum is that of an atom
+pub stack_table : (ts : List Tree) (frames : List Frame) (both : List Summand) → length both ≡ 2 → IsLeaf ts frames 0 → IsLeaf ts frames 1
+    → (qs : List Terms.Summand) (k : ℤ) → IsFirstAtom ts frames (AtMost qs k) → both ≡ turned (grid_sum qs) → AreSums (IsKnownSum ts frames) (leaf 0 ∷ leaf 1 ∷ both ∷ [])
+stack_table ts frames both two x y qs k atom is = table_of both two (IsKnownSum ts frames) (IsKnownSum.of_leaf 0 x refl) (IsKnownSum.of_leaf 1 y refl) (IsKnownSum.of_atom qs k atom is)
 
 -- ---- numbers
 

@@ -1,8 +1,7 @@
 -- Grids in which bounds are taken in one after another, and pivots that lead from one to another.
-use Rattle.std.proofs.Common.{◌≡◌, ◌∙◌, ℕ, ◌<◌, ◌≤◌, ℤ, Bool, true, List, [], ◌∷◌, ◌++◌, map, length, Option, Some, None, refl, sym, ap, ap₂, subst, arith}
+use Rattle.std.proofs.Common.{◌≡◌, ◌∙◌, ℕ, ◌<◌, ◌≤◌, ℤ, Bool, List, [], ◌∷◌, ◌++◌, map, length, Option, Some, None, refl, sym, ap, subst, arith}
 use Rattle.std.proofs.lemmas.Int.{ints}
 use Rattle.std.proofs.lemmas.List.{append-nil, length-map, get_or-map}
-use Rattle.std.specs.Prelude.{Contains}
 use Rattle.fraction128.specs.declared.Summand.{Summand}
 use Rattle.fraction128.specs.declared.Column.{Column}
 use Rattle.fraction128.specs.declared.Grid.{Grid}
@@ -10,20 +9,19 @@ use Rattle.fraction128.specs.declared.Line.{Line}
 use Rattle.fraction128.specs.declared.Side.TheVariants.{Lower, Upper}
 use Rattle.fraction128.specs.declared.ratio.Ratio.{Ratio}
 use Rattle.fraction128.specs.Grid.{column_at, move, pivot, after, with_values, moved_value, pivoted_value}
-use Rattle.fraction128.specs.Lines.{Bounding, IsBoundedBy, IsPivotIn, exchanged, basis_along, first_basis}
-use Rattle.fraction128.specs.Chain.{StaysOrRises, StaysOrFalls, TakesIn, ComesFrom, begins, taken, moved, GoesOn, left_by, PivotsLead, unbounded_column, unbounded}
+use Rattle.fraction128.specs.Lines.{Bounding, exchanged}
+use Rattle.fraction128.specs.Chain.{StaysOrRises, StaysOrFalls, TakesIn, ComesFrom, begins, taken, moved, left_by, PivotsLead, unbounded_column, unbounded}
 use Rattle.literals.specs.Signed.{Signed}
 use Rattle.smt_meaning.specs.declared.clauses.Atom.{Atom}
 use Rattle.smt_meaning.specs.StackCommand.{Stack}
-use Rattle.search_port.specs.Pivots.{pivots_of, AreChained, IsSaid, IsOfLog}
+use Rattle.search_port.specs.Pivots.{pivots_of, AreChained, IsSaid}
 use Rattle.search_port.specs.declared.budget.Spent.{Spent}
 use Rattle.search_port.specs.declared.budget.Spent.TheVariants.{Learnt, Numbered, Pivot}
 use Rattle.simplex_steps.specs.State.{KeepsBounds, column_in, no_column}
 use Rattle.simplex_steps.proofs.Moments.{length_with, col_with}
 use Rattle.simplex.specs.State.{KeepsValues}
-use Rattle.bound_log.specs.Told.{State, IsState, column_sums}
+use Rattle.bound_log.specs.Told.{State, IsState}
 use Rattle.bound_log.specs.Atoms.{Knows}
-use Rattle.bound_log.specs.Pending.{plain_grid}
 use Rattle.bound_log.specs.Growth.{KeepsVariables}
 use Rattle.bound_log.specs.Chained.{BoundsAreOfLog, LogIsTakenIn, ValuesStay}
 use Rattle.theory_combine.specs.Chained.{BoundsAreSaid, HasBoundsOf, KeepsGrid}

@@ -1,5 +1,5 @@
 -- What a search over a stack shows where it ends without an answer.
-use Rattle.std.proofs.Common.{◌≡◌, inl, inr, ◌⊎◌, ℕ, zero, suc, ◌+◌, ◌<◌, Bool, true, false, not, ◌||◌, List, [], ◌∷◌, ◌++◌, map, length, All, Contains, get_or, subst, sym, ap, ◌∙◌, arith, refl}
+use Rattle.std.proofs.Common.{◌≡◌, inl, inr, ◌⊎◌, ℕ, suc, ◌+◌, ◌<◌, Bool, true, false, not, ◌||◌, List, [], ◌∷◌, ◌++◌, map, length, All, Contains, get_or, subst, sym, ap, ◌∙◌, arith, refl}
 use Rattle.std.specs.Prelude.{ℤ, Option, Some, None, IfSome}
 use Rattle.std.specs.List.{range_with_len}
 use Rattle.std.proofs.lemmas.List.{append-nil, length-map, length-append}
@@ -7,11 +7,10 @@ use Rattle.std.proofs.lemmas.List.Elements.{All-nil, All-head, All-tail, All-wea
 use Rattle.literals.specs.Signed.{Signed}
 use Rattle.clause_store.specs.Stored.{Kept, Stored}
 use Rattle.fraction128.specs.declared.Summand.{Summand}
-use Rattle.fraction128.specs.declared.Column.{Column}
+use Rattle.fraction128.specs.declared.Line.{Line}
 use Rattle.fraction128.specs.declared.Grid.{Grid}
-use Rattle.fraction128.specs.Grid.{column_at}
 use Rattle.fraction128.specs.Lines.{Bounding, exchanged, first_basis}
-use Rattle.fraction128.specs.Chain.{left_by, unbounded, unbounded_column}
+use Rattle.fraction128.specs.Chain.{left_by}
 use Rattle.smt_meaning.specs.declared.clauses.Atom.{Atom}
 use Rattle.smt_meaning.specs.declared.clauses.Atom.TheVariants.{Truth}
 use Rattle.smt_meaning.specs.declared.clauses.Literal.{Literal}
@@ -25,13 +24,13 @@ use Rattle.smt_meaning.specs.CheckAtoms.{IsBoundOf, IsCheckAtom}
 use Rattle.smt_meaning.specs.Ranges.{LeavesRange}
 use Rattle.smt_meaning.specs.Report.{IsPastRange, IsUnit, AreUnits, AreChained, is_unlimited, most_units}
 use Rattle.scope_stack.specs.Shown.{IsLawful}
-use Rattle.search_port.specs.State.{Reading, TheoryState, Variables, IsGrown, atom_at}
+use Rattle.search_port.specs.State.{Reading, TheoryState, IsGrown, atom_at}
 use Rattle.search_port.specs.Showing.{IsShowing}
 use Rattle.search_port.specs.Spending.{Spending}
 use Rattle.search_port.specs.Valid.{FollowsAt, FollowsAsWritten}
 use Rattle.search_port.specs.Forcing.{ForcesByNumbers, ForcesInTurn}
 use Rattle.search_port.specs.Calls.{IsNoPivot, numbers}
-use Rattle.search_port.specs.Pivots.{AreBasic, ArePivots, AreChained as AreChainedSpent}
+use Rattle.search_port.specs.Pivots.{ArePivots, AreChained as AreChainedSpent}
 use Rattle.search_port.specs.declared.shown.Showing.{Showing}
 use Rattle.search_port.specs.declared.budget.Spent.{Spent}
 use Rattle.search_port.specs.declared.budget.Spent.TheVariants.{Learnt, Numbered, Pivot}
@@ -113,44 +112,6 @@ past_range flatly s t x seen trees frames h is =
       are_branches = shown.branches;
       leaves = subst (λ (o : Option RangeSeen). IfSome o (LeavesRange s.trees s.frames t.variables.sums (IsCheckAtom s.trees s.frames x.branches))) is shown.seen;
     }
-
--- ---- pivots among units
-
-abbrev IsUnbounded : Variables → Type 0
-IsUnbounded v = IfSome v.grid (λ g. unbounded g ≡ g)
-
-none_stands : (cs : List Column) (i : ℕ) (d : Column) → d.lower ≡ None → d.upper ≡ None → ((get_or (map unbounded_column cs) i d).lower ≡ None) × ((get_or (map unbounded_column cs) i d).upper ≡ None)
-none_stands [] i d l u = (l, u)
-none_stands (c ∷ cs) zero d l u = (refl, refl)
-none_stands (c ∷ cs) (suc i) d l u = none_stands cs i d l u
-
-none_or_some : {X : Type 0} (o : Option ℤ) (k : ℤ) → o ≡ None → o ≡ Some k → X
-none_or_some o k n e = let z : None ≡ Some k = sym n ∙ e in absurd (cc)
-
--- before any pivot
-pub before_any : (t : TheoryState) → AreBasic (first_basis t.variables.sums) t.variables → IsUnbounded t.variables → ArePivots t []
-before_any t basis free = by t.variables.grid refl
-  where
-    by : (o : Option Grid) → t.variables.grid ≡ o → ArePivots t []
-    by None e = record {
-      grid = record { columns = []; rows = []; pending = None };
-      of_log = record { bounds = λ i lt. absurd (omega (arith, lt)); variables = subst (λ o. IfSome o (λ h. unbounded (record { columns = []; rows = []; pending = None }) ≡ h)) (sym e) tt };
-      lines = tt;
-      basis = basis;
-    }
-    by (Some g) e =
-        let same : unbounded g ≡ g = subst (λ o. IfSome o (λ h. unbounded h ≡ h)) e free in
-        let none : (i : ℕ) → ((column_at g i).lower ≡ None) × ((column_at g i).upper ≡ None) = λ i.
-        subst (λ h. ((column_at h i).lower ≡ None) × ((column_at h i).upper ≡ None)) same (none_stands g.columns i _ refl refl) in
-        record {
-          grid = g;
-          of_log = record {
-            bounds = λ i lt. record { lower = λ k b. none_or_some (column_at g i).lower k (none i).0 b; upper = λ k b. none_or_some (column_at g i).upper k (none i).1 b };
-            variables = subst (λ o. IfSome o (λ h. unbounded g ≡ h)) (sym e) same;
-          };
-          lines = tt;
-          basis = basis;
-        }
 
 -- ---- units with their atoms written out hang together as they do
 

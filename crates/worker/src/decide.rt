@@ -1,14 +1,9 @@
 //! The search.
-ghost use Rattle.std.specs.Prelude.{◌≡◌, [], false, IfSome};
+ghost use Rattle.std.specs.Prelude.{◌≡◌, [], false};
 ghost use Rattle.smt_meaning.specs.Kinds.{has_no_integers};
-ghost use Rattle.fraction128.specs.Lines.{first_basis};
-ghost use Rattle.fraction128.specs.Chain.{unbounded};
-ghost use Rattle.search_port.specs.Pivots.{AreBasic};
-ghost use Rattle.cdcl_core.specs.Search.{AreAgreed};
 ghost use Rattle.smt_laws.specs.Flat.{flat};
-ghost use Rattle.first_clauses.specs.CheckClausesFirst.{reading_of, IsFirst};
 ghost use Rattle.worker.specs.Endings.{IsFound, IsHeard, MemoryAloneIsFound};
-ghost use Rattle.worker.specs.Shown.{HasStackAtoms};
+ghost use Rattle.worker.specs.Start.{IsStart};
 
 use crate::ending::{all_spent, stopped};
 use crate::limits::{has_limit, units_within};
@@ -54,13 +49,7 @@ pub(crate) fn search<T: Shown, H: Hook<T>>(
     requires may { H.may hook.old }
     requires hooked { H.reading hook.old ≡ record { trees = stack.now.trees; frames = flat stack.now.frames; table = []; closed = false } }
     requires integers { is_integer_free ≡ has_no_integers stack.now.frames }
-    requires first { IsFirst stack.now (T.state theory).reading.table store }
-    requires reading { (T.state theory).reading ≡ reading_of stack.now (T.state theory).reading.table }
-    requires untold { (T.state theory).log ≡ [] }
-    requires basis { AreBasic (first_basis (T.state theory).variables.sums) (T.state theory).variables }
-    requires unbounded { IfSome (T.state theory).variables.grid (λ g. unbounded g ≡ g) }
-    requires agreed { AreAgreed T.agrees (T.state theory).reading store.clauses }
-    requires all { HasStackAtoms stack.now (T.state theory).reading.table }
+    requires start { IsStart T.agrees stack.now (T.state theory) store }
     ensures found { IsFound stack.now settings.now.units worker (H.stopped hook.new) result }
     ensures memory { MemoryAloneIsFound stack.now.frames settings.now.units result }
     ensures heard { IsHeard settings.now.share (λ calls. H.later hook.old calls hook.new) }

@@ -2,18 +2,14 @@
 ghost use Rattle.std.specs.Prelude.{◌≡◌, ◌+◌, [], All, IfSome};
 ghost use Rattle.smt_meaning.specs.Stack.{depth};
 ghost use Rattle.smt_meaning.specs.Kinds.{has_no_integers};
-ghost use Rattle.fraction128.specs.Lines.{first_basis};
-ghost use Rattle.fraction128.specs.Chain.{unbounded};
-ghost use Rattle.search_port.specs.Pivots.{AreBasic};
 ghost use Rattle.search_port.specs.State.{IsGrown};
-ghost use Rattle.cdcl_core.specs.Search.{AreAgreed, IsAddable};
+ghost use Rattle.cdcl_core.specs.Search.{IsAddable};
 ghost use Rattle.cdcl_core.specs.Turns.{GivenBy, IsGiven};
-ghost use Rattle.first_clauses.specs.CheckClausesFirst.{reading_of, IsFirst};
 ghost use Rattle.race_cell.specs.Passes.{base_of, claim_of, IsSamePass};
 ghost use Rattle.worker.specs.Outcome.{IsOutcome, IsRight, MemoryAloneIsReported};
 ghost use Rattle.worker.specs.Endings.{IsFound, MemoryAloneIsFound};
 ghost use Rattle.worker.specs.Racing.{first_reading, HasRaced, HasRead, IsWork, MayWin, Turned};
-ghost use Rattle.worker.specs.Shown.{HasStackAtoms};
+ghost use Rattle.worker.specs.Start.{IsStart};
 
 use crate::decide::{Found, search};
 use crate::outcome::{Answer, Outcome};
@@ -107,13 +103,7 @@ pub fn run<S: Shelf, T: Shown, G: Gate>(
     requires base { (base_of S.state pass).base ≡ record { trees = stack.now.trees; frames = stack.now.frames } }
     requires unstarted { (claim_of pass).own ≡ [] }
     requires integers { is_integer_free ≡ has_no_integers stack.now.frames }
-    requires first { IsFirst stack.now (T.state theory).reading.table store }
-    requires reading { (T.state theory).reading ≡ reading_of stack.now (T.state theory).reading.table }
-    requires untold { (T.state theory).log ≡ [] }
-    requires basis { AreBasic (first_basis (T.state theory).variables.sums) (T.state theory).variables }
-    requires unbounded { IfSome (T.state theory).variables.grid (λ g. unbounded g ≡ g) }
-    requires agreed { AreAgreed T.agrees (T.state theory).reading store.clauses }
-    requires all { HasStackAtoms stack.now (T.state theory).reading.table }
+    requires start { IsStart T.agrees stack.now (T.state theory) store }
     ensures same { IsSamePass pass result.0 }
     ensures worker { (claim_of result.0).worker ≡ (claim_of pass).worker }
     ensures raced { HasRaced (depth stack.now.frames) settings.now.share pass result.0 }

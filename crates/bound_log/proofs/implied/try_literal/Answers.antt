@@ -31,4 +31,4 @@ returns-clause-values c =
     (subst (λ (s : State). KeepsValues c.args.bounds.now.bounds.columns s.bounds.columns) (sym c.broken-found.ensures.same) c.in-Ok.ensures.ok.values) c.undo_to.ensures.undone.values
 
 pub returns-in_default-clause-values : goal.returns-in_default-clause-values
-returns-in_default-clause-values c = ?
+returns-in_default-clause-values c = values_kept c.args.bounds.now.bounds.columns c.tell.new.self.bounds.columns (ap (λ (s : State). s.bounds.columns) c.in_default.ensures.err)

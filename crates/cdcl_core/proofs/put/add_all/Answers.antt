@@ -10,7 +10,7 @@ pub loop-clause-init : goal.loop-clause-init
 loop-clause-init g c = record {
   may_go = tt;
   ends = tt;
-  adds = adds-none c.args.store.now (g.T.Theory.state c.args.theory.now) c.args.budget.now c.requires.spent c.requires.stands;
+  adds = adds-none c.args.store.now (g.T.Theory.state c.args.theory.now) c.args.budget.now c.requires.within.spent c.requires.within.stands;
   reading = refl;
   pivots = λ counts keeps h. h;
   kept = λ k d lt. absurd (omega (arith, lt));

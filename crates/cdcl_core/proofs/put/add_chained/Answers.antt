@@ -7,16 +7,16 @@ use Rattle.cdcl_core.proofs.Distinct.{follows-same}
 use Rattle.cdcl_core.proofs.put.add_chained.Goals as goal
 
 pub returns-in_default-clause-adds : goal.returns-in_default-clause-adds
-returns-in_default-clause-adds g c = adds-known c.args.store.now c.know_atoms.new.store (g.T.Theory.state c.args.theory.now) c.args.budget.now c.requires.spent c.know_atoms.ensures.stands c.know_atoms.ensures.clauses
+returns-in_default-clause-adds g c = adds-known c.args.store.now c.know_atoms.new.store (g.T.Theory.state c.args.theory.now) c.args.budget.now c.requires.within.spent c.know_atoms.ensures.stands c.know_atoms.ensures.clauses
 
 pub returns-in_default-distinct-clause-adds : goal.returns-in_default-distinct-clause-adds
-returns-in_default-distinct-clause-adds g c = adds-known c.args.store.now c.know_atoms.new.store (g.T.Theory.state c.args.theory.now) c.args.budget.now c.requires.spent c.know_atoms.ensures.stands c.know_atoms.ensures.clauses
+returns-in_default-distinct-clause-adds g c = adds-known c.args.store.now c.know_atoms.new.store (g.T.Theory.state c.args.theory.now) c.args.budget.now c.requires.within.spent c.know_atoms.ensures.stands c.know_atoms.ensures.clauses
 
 pub returns-clause-adds : goal.returns-clause-adds
 returns-clause-adds g c =
     let t : TheoryState = g.T.Theory.state c.args.theory.now in
     adds-both c.args.store.now c.know_atoms.new.store c.add_own.new.store t t (g.T.Theory.state c.add_own.new.theory) c.args.budget.now c.args.budget.now c.add_own.new.budget
-    (adds-known c.args.store.now c.know_atoms.new.store t c.args.budget.now c.requires.spent c.know_atoms.ensures.stands c.know_atoms.ensures.clauses) c.add_own.ensures.adds
+    (adds-known c.args.store.now c.know_atoms.new.store t c.args.budget.now c.requires.within.spent c.know_atoms.ensures.stands c.know_atoms.ensures.clauses) c.add_own.ensures.adds
 
 pub returns-clause-kept : goal.returns-clause-kept
 returns-clause-kept g c =

@@ -6,7 +6,7 @@ use Rattle.cdcl_core.proofs.put.add_one.Goals as goal
 
 pub returns-in-Ok-clause-adds : goal.returns-in-Ok-clause-adds
 returns-in-Ok-clause-adds g c =
-    adds-inserted c.args.store.now c.insert.new.store (g.T.Theory.state c.args.theory.now) (g.T.Theory.state c.insert.new.theory) c.args.budget.now c.requires.spent c.insert.ensures.stands c.insert.ensures.reading
+    adds-inserted c.args.store.now c.insert.new.store (g.T.Theory.state c.args.theory.now) (g.T.Theory.state c.insert.new.theory) c.args.budget.now c.requires.within.spent c.insert.ensures.stands c.insert.ensures.reading
     (gains-among c.args.store.now.clauses c.insert.new.store.clauses c.args.clause c.in-Ok.ensures.gains)
 
 pub returns-in-Ok-clause-pivots : goal.returns-in-Ok-clause-pivots
@@ -18,5 +18,5 @@ returns-in-Ok-clause-kept g c = has-same c.insert.new.store.clauses c.args.claus
 
 pub returns-in-Err-clause-adds : goal.returns-in-Err-clause-adds
 returns-in-Err-clause-adds g c =
-    adds-inserted c.args.store.now c.insert.new.store (g.T.Theory.state c.args.theory.now) (g.T.Theory.state c.insert.new.theory) c.args.budget.now c.requires.spent c.insert.ensures.stands c.insert.ensures.reading
+    adds-inserted c.args.store.now c.insert.new.store (g.T.Theory.state c.args.theory.now) (g.T.Theory.state c.insert.new.theory) c.args.budget.now c.requires.within.spent c.insert.ensures.stands c.insert.ensures.reading
     (among-same c.args.store.now.clauses c.insert.new.store.clauses c.in-Err.ensures.same)

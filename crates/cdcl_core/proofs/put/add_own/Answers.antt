@@ -17,7 +17,7 @@ empty-is [] e = refl
 empty-is (l ∷ ls) e = absurd (omega (arith, e))
 
 pub returns-then-size-eq0-clause-adds : goal.returns-then-size-eq0-clause-adds
-returns-then-size-eq0-clause-adds g c = adds-none c.args.store.now (g.T.Theory.state c.args.theory.now) c.args.budget.now c.requires.spent c.requires.stands
+returns-then-size-eq0-clause-adds g c = adds-none c.args.store.now (g.T.Theory.state c.args.theory.now) c.args.budget.now c.requires.within.spent c.requires.within.stands
 
 pub returns-then-size-eq0-clause-halts : goal.returns-then-size-eq0-clause-halts
 returns-then-size-eq0-clause-halts g c =
@@ -31,9 +31,9 @@ returns-in-Ok-clause-adds g c =
     let same : c.as_slice.result.now ≡ c.args.clause.literals = c.as_slice.ensures in
     let some : 0 < length c.as_slice.result.now = (let n : c.len-size.result ≡ length c.args.clause.literals = c.len-size.ensures in let z = c.if-size-eq0.false in let e : length c.as_slice.result.now ≡ length c.args.clause.literals = ap (λ (xs : List Signed). length xs) same in omega arith) in
     let narrow : IsNarrow (up_to c.quiet_below-depth.result s.trail.steps) c.args.clause.literals = subst (IsNarrow (up_to c.quiet_below-depth.result s.trail.steps)) same (c.quiet_below-depth.ensures.narrow lt some) in
-    let unforced : Forces opposite (literal_lists s.clauses) c.args.clause.literals → ⊥ = unforced-narrow s c.quiet_below-depth.result c.args.clause.literals c.steps-steps.ensures.consistent c.requires.stands.searched lt c.requires.own_atoms narrow in
-    adds-put s c.put_down.new.store (g.T.Theory.state c.args.theory.now) (g.T.Theory.state c.put_down.new.theory) c.args.budget.now c.put_down.new.budget c.args.clause c.requires.spent c.put_down.ensures.stands c.put_down.ensures.reading
-    c.in-Ok.ensures.gains c.requires.addable c.requires.own_atoms unforced c.requires.counts c.requires.pivot c.in-Ok.ensures.put
+    let unforced : Forces opposite (literal_lists s.clauses) c.args.clause.literals → ⊥ = unforced-narrow s c.quiet_below-depth.result c.args.clause.literals c.steps-steps.ensures.consistent c.requires.within.stands.searched lt c.requires.own_atoms narrow in
+    adds-put s c.put_down.new.store (g.T.Theory.state c.args.theory.now) (g.T.Theory.state c.put_down.new.theory) c.args.budget.now c.put_down.new.budget c.args.clause c.requires.within.spent c.put_down.ensures.stands c.put_down.ensures.reading
+    c.in-Ok.ensures.gains c.requires.addable c.requires.own_atoms unforced c.requires.chained.counts c.requires.chained.pivot c.in-Ok.ensures.put
 
 pub returns-in-Ok-clause-pivots : goal.returns-in-Ok-clause-pivots
 returns-in-Ok-clause-pivots g c =
@@ -44,7 +44,7 @@ returns-in-Ok-clause-kept g c = gains-has c.args.store.now.clauses c.put_down.ne
 
 pub returns-in-Err-clause-adds : goal.returns-in-Err-clause-adds
 returns-in-Err-clause-adds g c =
-    adds-ended c.args.store.now c.put_down.new.store (g.T.Theory.state c.args.theory.now) (g.T.Theory.state c.put_down.new.theory) c.args.budget.now c.put_down.new.budget c.in-Err.cause c.requires.spent c.requires.stands c.put_down.ensures.stands
+    adds-ended c.args.store.now c.put_down.new.store (g.T.Theory.state c.args.theory.now) (g.T.Theory.state c.put_down.new.theory) c.args.budget.now c.put_down.new.budget c.in-Err.cause c.requires.within.spent c.requires.within.stands c.put_down.ensures.stands
     c.put_down.ensures.reading c.in-Err.ensures.ends
 
 pub returns-in-Err-clause-pivots : goal.returns-in-Err-clause-pivots
@@ -57,7 +57,7 @@ returns-in-Err-clause-halts g c =
 
 pub returns-in-Ok-add_at-clause-adds : goal.returns-in-Ok-add_at-clause-adds
 returns-in-Ok-add_at-clause-adds g c =
-    adds-inserted c.args.store.now c.add_at.new.store (g.T.Theory.state c.args.theory.now) (g.T.Theory.state c.add_at.new.theory) c.args.budget.now c.requires.spent c.add_at.ensures.stands c.add_at.ensures.reading
+    adds-inserted c.args.store.now c.add_at.new.store (g.T.Theory.state c.args.theory.now) (g.T.Theory.state c.add_at.new.theory) c.args.budget.now c.requires.within.spent c.add_at.ensures.stands c.add_at.ensures.reading
     (gains-among c.args.store.now.clauses c.add_at.new.store.clauses c.args.clause c.in-Ok-add_at.ensures.gains)
 
 pub returns-in-Ok-add_at-clause-pivots : goal.returns-in-Ok-add_at-clause-pivots
@@ -70,7 +70,7 @@ returns-in-Ok-add_at-clause-kept g c = gains-has c.args.store.now.clauses c.add_
 
 pub returns-in-Err-add_at-clause-adds : goal.returns-in-Err-add_at-clause-adds
 returns-in-Err-add_at-clause-adds g c =
-    adds-inserted c.args.store.now c.add_at.new.store (g.T.Theory.state c.args.theory.now) (g.T.Theory.state c.add_at.new.theory) c.args.budget.now c.requires.spent c.add_at.ensures.stands c.add_at.ensures.reading
+    adds-inserted c.args.store.now c.add_at.new.store (g.T.Theory.state c.args.theory.now) (g.T.Theory.state c.add_at.new.theory) c.args.budget.now c.requires.within.spent c.add_at.ensures.stands c.add_at.ensures.reading
     (among-same c.args.store.now.clauses c.add_at.new.store.clauses c.in-Err-add_at.ensures.same)
 
 pub quiet_below-depth-requires : goal.quiet_below-depth-requires

@@ -5,7 +5,7 @@ use Rattle.cdcl_core.proofs.turn.insert_paid_one.Goals as goal
 
 pub returns-then-ends_with_pivot : goal.returns-then-ends_with_pivot
 returns-then-ends_with_pivot g c = record {
-  turns = known-atoms c.args.store.now c.args.store.now (g.T.Theory.state c.args.theory.now) c.args.budget.now c.requires.spent c.requires.stands refl;
+  turns = known-atoms c.args.store.now c.args.store.now (g.T.Theory.state c.args.theory.now) c.args.budget.now c.requires.within.spent c.requires.within.stands refl;
   by = tt;
   pivots = λ counts keeps h. h;
   same = partly-same c.args.budget.now;

@@ -1,4 +1,4 @@
-use Rattle.std.proofs.Common.{subst, sym, ap, [], false, All, refl}
+use Rattle.std.proofs.Common.{◌≤◌, subst, sym, ap, [], false, All, length, refl, arith}
 use Rattle.std.proofs.lemmas.List.Elements.{All-nil}
 use Rattle.search_port.specs.State.{Reading, TheoryState, IsGrown}
 use Rattle.search_port.specs.Spending.{Spending}
@@ -6,39 +6,37 @@ use Rattle.search_port.specs.declared.budget.Cause.{Cause}
 use Rattle.smt_laws.specs.Flat.{flat}
 use Rattle.first_clauses.specs.CheckClausesFirst.{reading_of}
 use Rattle.cdcl_core.specs.Search.{IsAddable}
-use Rattle.cdcl_core.specs.Turns.{EndsSearch}
+use Rattle.cdcl_core.specs.declared.solve.Outcome.TheVariants.{Ended as OutcomeEnded}
+use Rattle.cdcl_core.specs.Turns.{EndsSearch, PivotsAtEnd}
 use Rattle.worker.proofs.Deciding.{fresh, heard, heard_from, tables_for, holds, fit}
-use Rattle.worker.proofs.Showing.{before_any, budget_of, frames_stay, of_numbers, shows_units, trees_stay}
+use Rattle.worker.proofs.Showing.{budget_of, frames_stay, of_numbers, shows_units, trees_stay}
 use Rattle.worker.proofs.Units.{of_worker}
 use Rattle.worker.proofs.decide.search.Goals as goal
 
-pub solve-requires-clause-stands : goal.solve-requires-clause-stands
-solve-requires-clause-stands g c =
+pub solve-requires-clause-hears : goal.solve-requires-clause-hears
+solve-requires-clause-hears g c =
     let s = c.args.stack.now in
-    let t = g.T.Theory.state c.args.theory in
-    c.fresh_stands.ensures c.args.store t (fresh s t.reading.table c.args.store t c.requires.first c.requires.reading c.requires.untold)
-
-pub solve-requires-clause-heard : goal.solve-requires-clause-heard
-solve-requires-clause-heard g c =
-    let s = c.args.stack.now in
-    let before : Reading = (g.T.Theory.state c.args.theory).reading in
-    subst (λ (r : Reading). IsGrown r before) (sym c.requires.hooked)
-    (subst (IsGrown (record { trees = s.trees; frames = flat s.frames; table = []; closed = false })) (sym c.requires.reading) (heard s before.table))
-
-pub solve-requires-clause-shorts : goal.solve-requires-clause-shorts
-solve-requires-clause-shorts g c =
-    let before : Reading = (g.T.Theory.state c.args.theory).reading in
-    subst (λ (b : Spending). All (IsAddable before) b.short) (sym c.new-budget.ensures) (All-nil (IsAddable before))
+    let t : TheoryState = g.T.Theory.state c.args.theory in
+    let k = c.requires.start in
+    record {
+      within = record {
+        stands = c.fresh_stands.ensures c.args.store t (fresh s t.reading.table c.args.store t k.first k.reading k.untold);
+        spent = subst (λ (b : Spending). length b.units ≤ b.limit) (sym c.new-budget.ensures) (omega arith);
+      };
+      grown = subst (λ (r : Reading). IsGrown r t.reading) (sym c.requires.hooked)
+          (subst (IsGrown (record { trees = s.trees; frames = flat s.frames; table = []; closed = false })) (sym k.reading) (heard s t.reading.table));
+      shorts = subst (λ (b : Spending). All (IsAddable t.reading) b.short) (sym c.new-budget.ensures) (All-nil (IsAddable t.reading));
+    }
 
 pub returns-in-Full-clause-found : goal.returns-in-Full-clause-found
 returns-in-Full-clause-found g c =
     let s = c.args.stack.now in
     let before : Reading = (g.T.Theory.state c.args.theory).reading in
     let after : Reading = (g.T.Theory.state c.solve.new.theory).reading in
-    let grown : IsGrown (reading_of s before.table) after = subst (λ (r : Reading). IsGrown r after) c.requires.reading c.in-Full.ensures.run.turns.grown in
+    let grown : IsGrown (reading_of s before.table) after = subst (λ (r : Reading). IsGrown r after) c.requires.start.reading c.in-Full.ensures.run.turns.grown in
     record {
       tables = tables_for c.signature_stays.ensures s before.table after c.solve.new.store.clauses c.in-Full.tables grown c.in-Full.ensures.outcome;
-      holds = holds c.first_clauses_say_assertions.ensures s before.table c.args.store after c.solve.new.store.clauses c.in-Full.tables c.requires.first grown c.in-Full.ensures.run.stay c.in-Full.ensures.outcome;
+      holds = holds c.first_clauses_say_assertions.ensures s before.table c.args.store after c.solve.new.store.clauses c.in-Full.tables c.requires.start.first grown c.in-Full.ensures.run.stay c.in-Full.ensures.outcome;
       fits = fit c.flat_says_the_same.ensures s before.table after c.solve.new.store.clauses c.in-Full.tables grown c.in-Full.ensures.outcome;
     }
 
@@ -47,16 +45,16 @@ returns-in-False-clause-found g c =
     let s = c.args.stack.now in
     let before : Reading = (g.T.Theory.state c.args.theory).reading in
     let after : Reading = (g.T.Theory.state c.solve.new.theory).reading in
-    let grown : IsGrown (reading_of s before.table) after = subst (λ (r : Reading). IsGrown r after) c.requires.reading c.in-False.ensures.run.turns.grown in
+    let grown : IsGrown (reading_of s before.table) after = subst (λ (r : Reading). IsGrown r after) c.requires.start.reading c.in-False.ensures.run.turns.grown in
     c.empty_clause_means_no_model.ensures s before.table after c.in-False.field-0 grown c.in-False.ensures.outcome
 
 pub all_spent-requires-clause-trees : goal.all_spent-requires-clause-trees
 all_spent-requires-clause-trees g c =
-    trees_stay c.args.stack.now (g.T.Theory.state c.args.theory).reading (g.T.Theory.state c.solve.new.theory).reading c.requires.reading c.in-Ended-Units.ensures.run.turns.grown
+    trees_stay c.args.stack.now (g.T.Theory.state c.args.theory).reading (g.T.Theory.state c.solve.new.theory).reading c.requires.start.reading c.in-Ended-Units.ensures.run.turns.grown
 
 pub all_spent-requires-clause-frames : goal.all_spent-requires-clause-frames
 all_spent-requires-clause-frames g c =
-    frames_stay c.args.stack.now (g.T.Theory.state c.args.theory).reading (g.T.Theory.state c.solve.new.theory).reading c.requires.reading c.in-Ended-Units.ensures.run.turns.grown
+    frames_stay c.args.stack.now (g.T.Theory.state c.args.theory).reading (g.T.Theory.state c.solve.new.theory).reading c.requires.start.reading c.in-Ended-Units.ensures.run.turns.grown
 
 pub all_spent-requires-clause-numbers : goal.all_spent-requires-clause-numbers
 all_spent-requires-clause-numbers g c =
@@ -69,17 +67,18 @@ all_spent-requires-clause-spent g c =
     let after : TheoryState = g.T.Theory.state c.solve.new.theory in
     shows_units c.args.worker _ (of_worker c.args.worker _ refl)
     (record { as_written = c.follows_as_written.ensures; by_numbers = c.forces_by_numbers.ensures; in_turn = c.forces_in_turn.ensures; flatly = c.flat_says_the_same.ensures }) s c.args.store
-    c.solve.new.store c.laws.ensures c.args.settings.now.units (g.T.Theory.state c.args.theory) after c.new-budget.result c.solve.new.budget c.requires.first c.requires.all c.requires.reading (before_any (g.T.Theory.state c.args.theory) c.requires.basis c.requires.unbounded)
-    (budget_of c.args.settings.now.units c.new-budget.result c.units_within-limit.result _ _ _ c.new-budget.ensures c.units_within-limit.ensures c.has_limit-limited.ensures) c.in-Ended-Units.ensures.run c.in-Ended-Units.ensures.pivots
+    c.solve.new.store c.laws.ensures c.args.settings.now.units (g.T.Theory.state c.args.theory) after c.new-budget.result c.solve.new.budget c.requires.start.first c.requires.start.all c.requires.start.reading c.requires.start.pivots
+    (budget_of c.args.settings.now.units c.new-budget.result c.units_within-limit.result _ _ _ c.new-budget.ensures c.units_within-limit.ensures c.has_limit-limited.ensures) c.in-Ended-Units.ensures.run
+    (subst (λ (e : Cause). PivotsAtEnd (g.T.Theory.state c.args.theory) after c.new-budget.result c.solve.new.budget (OutcomeEnded e)) c.in-Ended-Units.field-0-is c.in-Ended-Units.ensures.pivots)
     (subst (λ (e : Cause). EndsSearch after.reading c.solve.new.budget (g.H.Hook.stopped c.solve.new.hook) e) c.in-Ended-Units.field-0-is c.in-Ended-Units.ensures.outcome)
 
 pub stopped-requires-clause-trees : goal.stopped-requires-clause-trees
 stopped-requires-clause-trees g c =
-    trees_stay c.args.stack.now (g.T.Theory.state c.args.theory).reading (g.T.Theory.state c.solve.new.theory).reading c.requires.reading c.in-Ended-Memory.ensures.run.turns.grown
+    trees_stay c.args.stack.now (g.T.Theory.state c.args.theory).reading (g.T.Theory.state c.solve.new.theory).reading c.requires.start.reading c.in-Ended-Memory.ensures.run.turns.grown
 
 pub stopped-requires-clause-frames : goal.stopped-requires-clause-frames
 stopped-requires-clause-frames g c =
-    frames_stay c.args.stack.now (g.T.Theory.state c.args.theory).reading (g.T.Theory.state c.solve.new.theory).reading c.requires.reading c.in-Ended-Memory.ensures.run.turns.grown
+    frames_stay c.args.stack.now (g.T.Theory.state c.args.theory).reading (g.T.Theory.state c.solve.new.theory).reading c.requires.start.reading c.in-Ended-Memory.ensures.run.turns.grown
 
 pub returns-in-Full-clause-heard : goal.returns-in-Full-clause-heard
 returns-in-Full-clause-heard g c = heard_from _ _ _ _ _ c.new-budget.result c.solve.new.budget c.new-budget.ensures c.in-Full.ensures.heard
