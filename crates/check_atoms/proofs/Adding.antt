@@ -1,6 +1,6 @@
 -- Atoms numbered one after another.
 use Rattle.std.proofs.Common.{◌≡◌, inl, inr, ℕ, zero, suc, ◌<◌, ◌+◌, List, [], ◌∷◌, ◌++◌, map, length, take, get_or, Contains, subst, sym, arith}
-use Rattle.std.specs.Prelude.{ℤ}
+use Rattle.std.specs.Prelude.{ℤ, ◌⊎◌}
 use Rattle.std.proofs.lemmas.List.{map_more}
 use Rattle.std.proofs.lemmas.List.Elements.{All-nil, All-cons, All-append, All-weaker, Contains-append_left, Contains-append_right, Contains-append_cases}
 use Rattle.smt_meaning.specs.declared.clauses.Atom.{Atom}
@@ -12,11 +12,14 @@ use Rattle.atom_form.specs.declared.compact.CompactAtom.TheVariants.{Truth, Same
 use Rattle.linear_forms.specs.Sums.{IsSum}
 use Rattle.pair_bounds.specs.Pairs.{IsBound}
 use Rattle.atom_form.specs.AtomNumbersAtoms.{Numbers}
+use Rattle.bound_clauses.specs.declared.orders.Order.{Order}
+use Rattle.pair_bounds.specs.declared.rows.RowLimit.{RowLimit}
 use Rattle.check_atoms.specs.declared.refusal.Refusal.{Refusal}
+use Rattle.check_atoms.specs.declared.refusal.Refusal.TheVariants.{Memory}
 use Rattle.check_atoms.specs.declared.part.PartAtom.{PartAtom}
 use Rattle.check_atoms.specs.declared.part.PartAtom.TheVariants.{Bound, Limit}
 use Rattle.check_atoms.specs.PartAtoms.{atom_of}
-use Rattle.check_atoms.specs.Numbering.{IsNormal, Adds, RefusesOne}
+use Rattle.check_atoms.specs.Numbering.{IsNormal, Adds, RefusesOne, RefusesOrder, RefusesRow}
 
 pub adds_none : (count : ℕ) (old : List Atom) → Adds count old [] old
 adds_none count old = record { normal = All-nil (IsNormal count); these = All-nil (Contains old); stay = λ a c. c; only = λ a c. inl c }
@@ -57,6 +60,15 @@ pub refuses_more : (trees : List Tree) (place : ℕ) (atoms : List PartAtom) (x 
 refuses_more trees place atoms x e c (inl m) = inl m
 refuses_more trees place atoms x e c (inr (inl r)) = inr (inl (record { order = r.order; among = subst (Contains atoms) (only_one x (Bound r.order) r.among) c; refuses = r.refuses }))
 refuses_more trees place atoms x e c (inr (inr r)) = inr (inr (record { limit = r.limit; among = subst (Contains atoms) (only_one x (Limit r.limit) r.among) c; refuses = r.refuses }))
+
+-- what refuses an order or a limit refuses its atom
+pub refuses_order : (trees : List Tree) (place : ℕ) (x : PartAtom) (order : Order) (e : Refusal) → x ≡ Bound order → (e ≡ Memory) ⊎ RefusesOrder trees place order e → RefusesOne trees place (x ∷ []) e
+refuses_order trees place x order e is (inl m) = inl m
+refuses_order trees place x order e is (inr r) = inr (inl (record { order = order; among = (0, omega arith, is); refuses = r }))
+
+pub refuses_row : (trees : List Tree) (place : ℕ) (x : PartAtom) (limit : RowLimit) (e : Refusal) → x ≡ Limit limit → (e ≡ Memory) ⊎ RefusesRow trees place limit e → RefusesOne trees place (x ∷ []) e
+refuses_row trees place x limit e is (inl m) = inl m
+refuses_row trees place x limit e is (inr r) = inr (inr (record { limit = limit; among = (0, omega arith, is); refuses = r }))
 
 pub core_is_normal : (count : ℕ) (a : CompactAtom) → IsNormal count (core_atom a)
 core_is_normal count (Truth p) = tt

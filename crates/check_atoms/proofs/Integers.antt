@@ -2,6 +2,7 @@
 use Rattle.std.proofs.Common.{◌≡◌, ℕ, true, ◌&&◌, List, [], ◌∷◌, ◌++◌, Some, map, length, All, subst, sym, ap, ◌∙◌, refl}
 use Rattle.std.specs.Prelude.{◌≢◌, Option, None, ℤ}
 use Rattle.std.proofs.lemmas.List.Elements.{All-nil, All-cons, All-append, All-map, All-weaker}
+use Rattle.smt_laws.proofs.Both.{and_right}
 use Rattle.smt_meaning.specs.declared.values.Sort.{Sort}
 use Rattle.smt_meaning.specs.declared.values.Sort.TheVariants.{Bool as Truths, Int as Ints, Free}
 use Rattle.smt_meaning.specs.declared.terms.Operator.TheVariants.{Equal, Distinct, Ite, AtMost, Less, AtLeast, Greater, Divide, Modulo, Absolute, Divisible}
@@ -13,7 +14,7 @@ use Rattle.smt_meaning.specs.Term.{Tree, node, none, tree_at}
 use Rattle.smt_meaning.specs.Nodes.{pick}
 use Rattle.smt_meaning.specs.Signature.{tree_sort, tree_sorts, operator_sort, ite_sort, if_so, all_of, all_the_same, sort_eq, stands_with}
 use Rattle.scope_stack.proofs.SortLemmas.{HasArguments, arguments_of, HasFirst, first_of, stands_so, if_so_is}
-use Rattle.check_atoms.proofs.Sorting.{right_true, sort_is, if_so_true, all_of_one}
+use Rattle.check_atoms.proofs.Sorting.{sort_is, if_so_true, all_of_one}
 use Rattle.bound_clauses.specs.declared.orders.Sense.TheVariants.{NotAbove}
 use Rattle.bound_clauses.specs.Orders.{order, both_orders, order_atoms}
 use Rattle.check_atoms.specs.declared.part.PartAtom.{PartAtom}
@@ -90,7 +91,7 @@ module _ (ds : List Declaration) (ts : List Tree) where
       let m : if_so (sort_eq f.first Truths && sort_eq g.first k.first) g.first ≡ Some s = subst (λ xs. ite_sort xs ≡ Some s) whole made in
       let left : g.first ≡ s = if_so_is (sort_eq f.first Truths && sort_eq g.first k.first) g.first s m in
       let right : g.first ≡ k.first =
-      sort_is g.first k.first (right_true (sort_eq f.first Truths) (sort_eq g.first k.first) (if_so_true (sort_eq f.first Truths && sort_eq g.first k.first) g.first s m)) in
+      sort_is g.first k.first (and_right (sort_eq f.first Truths) (sort_eq g.first k.first) (if_so_true (sort_eq f.first Truths && sort_eq g.first k.first) g.first s m)) in
       All-append IsIntBound (alone (sort_of ds ts) p i) (alone (sort_of ds ts) p j) (one_alone s p i h (g.here ∙ ap Some left)) (one_alone s p j h (k.here ∙ ap Some (sym right ∙ left)))
 
   orders_int : (o : Operator) (is : List ℕ) (ss : List Sort) → tree_sorts ds (pick ts is) ≡ Some ss → all_of Ints ss ≡ true → All IsIntBound (map Bound (order_atoms o is))

@@ -2,6 +2,7 @@
 use Rattle.std.proofs.Common.{◌≡◌, inl, inr, ℕ, false, List, [], ◌∷◌, All, Contains, subst, sym, ap, ◌∙◌, refl}
 use Rattle.std.specs.Prelude.{IsTrue}
 use Rattle.std.proofs.lemmas.List.Elements.{All-contains, All-contains_itself}
+use Rattle.smt_laws.proofs.Both.{and_right}
 use Rattle.smt_meaning.specs.declared.terms.Operator.{Operator}
 use Rattle.smt_meaning.specs.declared.terms.Head.TheVariants.{Theory}
 use Rattle.smt_meaning.specs.Term.{Tree, node, tree_at}
@@ -27,7 +28,6 @@ use Rattle.check_atoms.specs.PartAtoms.{sort_of}
 use Rattle.check_atoms.specs.Numbering.{RefusesRows}
 use Rattle.check_atoms.specs.OfStack.{part_atoms, RefusesPart}
 use Rattle.check_atoms.specs.PairRangesLaws.{LawfulLimitsLeaveRange}
-use Rattle.check_atoms.proofs.Sorting.{right_true}
 use Rattle.check_atoms.proofs.Rows.{limits_of, comparison_unfit}
 use Rattle.check_atoms.proofs.PartPlaces.{part_any}
 use Rattle.check_atoms.proofs.Refused.{different}
@@ -76,7 +76,7 @@ not_large : (ts : List Tree) (is : List ℕ) → PlacedFormsFit → All (λ (t :
 not_large ts [] fit numerals d = d
 not_large ts (i ∷ []) fit numerals d = d
 not_large ts (i ∷ j ∷ is) fit numerals d =
-    d.1 (fits_in_range (place_form ts j).constant (right_true (sum_fits (place_form ts j).sum) (is_in_range (place_form ts j).constant) (fit ts j numerals d.0)))
+    d.1 (fits_in_range (place_form ts j).constant (and_right (sum_fits (place_form ts j).sum) (is_in_range (place_form ts j).constant) (fit ts j numerals d.0)))
 
 pub lawful_limits : PlacedFormsFit → RowsAreAtoms → LawfulLimitsLeaveRange
 lawful_limits fit law s part lawful numerals (inl m) = absurd (no_memory part m)

@@ -2,6 +2,7 @@
 use Rattle.std.proofs.Common.{◌≡◌, inl, inr, ℕ, Bool, true, false, ◌&&◌, List, [], ◌∷◌, Some, length, All, subst, sym, ap, ◌∙◌, refl}
 use Rattle.std.proofs.lemmas.Bool.{eqb-true}
 use Rattle.std.proofs.lemmas.List.Elements.{All-nil, All-cons}
+use Rattle.smt_laws.proofs.Both.{and_left, and_right}
 use Rattle.smt_meaning.specs.declared.values.Sort.{Sort}
 use Rattle.smt_meaning.specs.declared.values.Sort.TheVariants.{Bool as Truths, Int as Ints, Free}
 use Rattle.smt_meaning.specs.declared.terms.Operator.TheVariants.{Distinct}
@@ -13,14 +14,6 @@ use Rattle.smt_meaning.specs.Parts.{IsPart, IsPartOfOne}
 use Rattle.smt_meaning.specs.Signature.{tree_sort, tree_sorts, operator_sort, if_so, all_of, all_the_same, sort_eq, stands_with}
 use Rattle.term_store.specs.Terms.{tree_with}
 use Rattle.scope_stack.proofs.SortLemmas.{HasArguments, arguments_of, HasFirst, first_of, stands_so}
-
-pub left_true : (a b : Bool) → (a && b) ≡ true → a ≡ true
-left_true true b h = refl
-left_true false b h = h
-
-pub right_true : (a b : Bool) → (a && b) ≡ true → b ≡ true
-right_true true b h = h
-right_true false b h = absurd cc
 
 -- ---- parts
 
@@ -62,8 +55,8 @@ module _ (ds : List Declaration) (trees : List Tree) where
   all_of_one r (i ∷ is) ss e a =
       let f : HasFirst ds (tree_at trees i) (pick trees is) ss = first_of ds (tree_at trees i) (pick trees is) ss e in
       let b : all_of r (f.first ∷ f.rest) ≡ true = subst (λ xs. all_of r xs ≡ true) f.are a in
-      All-cons (λ j. tree_sort ds (tree_at trees j) ≡ Some r) i is (f.here ∙ ap Some (sym (sort_is r f.first (left_true (sort_eq r f.first) _ b))))
-      (all_of_one r is f.rest f.later (right_true (sort_eq r f.first) _ b))
+      All-cons (λ j. tree_sort ds (tree_at trees j) ≡ Some r) i is (f.here ∙ ap Some (sym (sort_is r f.first (and_left (sort_eq r f.first) _ b))))
+      (all_of_one r is f.rest f.later (and_right (sort_eq r f.first) _ b))
 
   pub record HaveOneSort (is : List ℕ) : Type 0 where
     pub sort : Sort

@@ -3,6 +3,7 @@ use Rattle.std.proofs.Common.{◌≡◌, inl, inr, Bool, true, false, ◌&&◌, 
 use Rattle.std.specs.List.{list_all}
 use Rattle.std.specs.Prelude.{Contains}
 use Rattle.std.proofs.lemmas.List.Elements.{All-nil, All-cons, All-head, All-tail, All-contains, Contains-get_or}
+use Rattle.smt_laws.proofs.Both.{and_left, and_right}
 use Rattle.smt_meaning.specs.Declaration.{Declaration}
 use Rattle.smt_meaning.specs.Term.{Tree, Trees, node, none, more}
 use Rattle.smt_meaning.specs.Parts.{IsPart, IsPartOfOne}
@@ -10,7 +11,6 @@ use Rattle.smt_meaning.specs.Signature.{tree_sort, is_int}
 use Rattle.smt_meaning.specs.Stack.{Frame, signature_of, assertions_of}
 use Rattle.smt_meaning.specs.Report.{IsPartOfStack}
 use Rattle.smt_meaning.specs.Kinds.{has_no_int, have_no_int, has_no_integers}
-use Rattle.check_atoms.proofs.Sorting.{left_true, right_true}
 
 not_true : (b : Bool) → not b ≡ true → b ≡ false
 not_true true h = absurd cc
@@ -22,13 +22,13 @@ both_true a b p q = rw (p, q)
 mutual
   part_is_no_int : (ds : List Declaration) (u t : Tree) → IsPart u t → has_no_int ds t ≡ true → is_int (tree_sort ds u) ≡ false
   part_is_no_int ds u (node h us) (inl e) b =
-      subst (λ v. is_int (tree_sort ds v) ≡ false) (sym e) (not_true (is_int (tree_sort ds (node h us))) (left_true (not (is_int (tree_sort ds (node h us)))) (have_no_int ds us) b))
-  part_is_no_int ds u (node h us) (inr q) b = some_is_no_int ds u us q (right_true (not (is_int (tree_sort ds (node h us)))) (have_no_int ds us) b)
+      subst (λ v. is_int (tree_sort ds v) ≡ false) (sym e) (not_true (is_int (tree_sort ds (node h us))) (and_left (not (is_int (tree_sort ds (node h us)))) (have_no_int ds us) b))
+  part_is_no_int ds u (node h us) (inr q) b = some_is_no_int ds u us q (and_right (not (is_int (tree_sort ds (node h us)))) (have_no_int ds us) b)
 
   some_is_no_int : (ds : List Declaration) (u : Tree) (us : Trees) → IsPartOfOne u us → have_no_int ds us ≡ true → is_int (tree_sort ds u) ≡ false
   some_is_no_int ds u none q b = absurd q
-  some_is_no_int ds u (more t us) (inl q) b = part_is_no_int ds u t q (left_true (has_no_int ds t) (have_no_int ds us) b)
-  some_is_no_int ds u (more t us) (inr q) b = some_is_no_int ds u us q (right_true (has_no_int ds t) (have_no_int ds us) b)
+  some_is_no_int ds u (more t us) (inl q) b = part_is_no_int ds u t q (and_left (has_no_int ds t) (have_no_int ds us) b)
+  some_is_no_int ds u (more t us) (inr q) b = some_is_no_int ds u us q (and_right (has_no_int ds t) (have_no_int ds us) b)
 
 mutual
   without : (ds : List Declaration) (t : Tree) → ((u : Tree) → IsPart u t → is_int (tree_sort ds u) ≡ false) → has_no_int ds t ≡ true
@@ -43,7 +43,7 @@ mutual
 
 all_of_them : (f : Tree → Bool) (ts : List Tree) → list_all f ts ≡ true → All (λ t. f t ≡ true) ts
 all_of_them f [] h = All-nil (λ t. f t ≡ true)
-all_of_them f (t ∷ ts) h = All-cons (λ u. f u ≡ true) t ts (left_true (f t) _ h) (all_of_them f ts (right_true (f t) _ h))
+all_of_them f (t ∷ ts) h = All-cons (λ u. f u ≡ true) t ts (and_left (f t) _ h) (all_of_them f ts (and_right (f t) _ h))
 
 all_together : (f : Tree → Bool) (ts : List Tree) → All (λ t. f t ≡ true) ts → list_all f ts ≡ true
 all_together f [] h = refl

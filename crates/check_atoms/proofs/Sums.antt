@@ -2,6 +2,7 @@
 use Rattle.std.proofs.Common.{◌≡◌, inl, inr, ℕ, zero, Bool, true, false, List, [], ◌∷◌, length, All, Some, subst, sym, ap, ◌∙◌, refl}
 use Rattle.std.specs.Prelude.{ℤ, pos, negsuc, ◌+ℤ◌, neg_ℤ, ◌-ℤ◌, nat_eq, nat_lt, if◌then◌else◌}
 use Rattle.std.proofs.lemmas.List.Elements.{All-nil, All-cons, All-head, All-tail}
+use Rattle.smt_laws.proofs.Both.{and_left, and_right}
 use Rattle.smt_meaning.specs.declared.terms.Operator.TheVariants.{Add, Subtract, Multiply}
 use Rattle.smt_meaning.specs.declared.terms.Operator.{Operator}
 use Rattle.smt_meaning.specs.declared.terms.Head.TheVariants.{Numeral, Theory}
@@ -14,7 +15,7 @@ use Rattle.smt_meaning.specs.Declaration.{Declaration}
 use Rattle.smt_meaning.specs.Signature.{tree_sort, tree_sorts, operator_sort, if_so, all_of, sort_eq, stands_with}
 use Rattle.smt_meaning.specs.CheckAtoms.{is_leaf}
 use Rattle.scope_stack.proofs.SortLemmas.{HasArguments, arguments_of, HasFirst, first_of, stands_so}
-use Rattle.check_atoms.proofs.Sorting.{left_true, right_true, sort_is, if_so_true}
+use Rattle.check_atoms.proofs.Sorting.{sort_is, if_so_true}
 use Rattle.smt_meaning.specs.Parts.{IsPart, IsPartOfOne}
 use Rattle.smt_meaning.specs.Clause.{sum_places, atom_places}
 use Rattle.smt_meaning.specs.Linear.{Form, summand, is_zero, unless_zero, placed, with_term, sums_added, each_times, sum_times, form_plus, form_minus, form_product, fold_forms, folded, difference_form, linear_form, linear_forms}
@@ -44,7 +45,7 @@ all_ints ds none ss e a = tt
 all_ints ds (more u us) ss e a =
     let f : HasFirst ds u us ss = first_of ds u us ss e in
     let b : all_of Ints (f.first ∷ f.rest) ≡ true = subst (λ xs. all_of Ints xs ≡ true) f.are a in
-    (f.here ∙ ap Some (sym (sort_is Ints f.first (left_true (sort_eq Ints f.first) _ b))), all_ints ds us f.rest f.later (right_true (sort_eq Ints f.first) _ b))
+    (f.here ∙ ap Some (sym (sort_is Ints f.first (and_left (sort_eq Ints f.first) _ b))), all_ints ds us f.rest f.later (and_right (sort_eq Ints f.first) _ b))
 
 inner_ints : (ds : List Declaration) (o : Operator) (us : Trees) → ((ss : List Sort) → operator_sort o ss ≡ if_so (all_of Ints ss) Ints) → IsInt ds (node (Theory o) us) → AreInts ds us
 inner_ints ds o us by i =

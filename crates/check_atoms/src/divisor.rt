@@ -4,7 +4,7 @@ ghost use Rattle.smt_meaning.specs.Term.{Tree};
 ghost use Rattle.linear_forms.specs.Table.{AreForms};
 ghost use Rattle.linear_forms.specs.Differences.{KnowsForms};
 ghost use Rattle.pair_bounds.specs.Rows.{divides, RefusesDivisor};
-ghost use Rattle.check_atoms.specs.Divisors.{IsDivisorOf, IsDivisorFor};
+ghost use Rattle.check_atoms.specs.Divisors.{IsDivisorOf};
 ghost use Rattle.check_atoms.specs.Numbering.{RefusesDivision};
 
 use crate::refusal::Refusal;
@@ -22,24 +22,6 @@ fn divides(operator: Operator) -> bool
     }
 }
 
-/// The divisor of a term with this operator, and 0 where it doesn't divide by its second argument.
-fn divisor_by(
-    forms: &LinearForms,
-    operator: Operator,
-    arguments: &[TermId],
-) -> Result<i128, DifferenceError>
-    requires places { All (λ i. i < length forms.now) arguments.now }
-    requires known { KnowsForms forms.now }
-    ensures ok { (trees : List Tree) → AreForms trees forms.now → IfOk result (λ n. IsDivisorFor trees operator arguments.now n) }
-    ensures err { (trees : List Tree) → AreForms trees forms.now → IfErr result (λ e. RefusesDivisor trees arguments.now e) }
-{
-    if divides(operator) {
-        divisor(forms, arguments)
-    } else {
-        Ok(0)
-    }
-}
-
 /// The number by which the rows of a term divide. An `Err` says at which part folding the divisor leaves the range (`Term`), or that its number isn't in the range (`Pair`).
 pub(crate) fn divisor_of(
     forms: &LinearForms,
@@ -52,7 +34,7 @@ pub(crate) fn divisor_of(
     ensures err { (trees : List Tree) → AreForms trees forms.now → IfErr result (λ e. RefusesDivisor trees arguments.now e) }
 {
     match head {
-        Head::Theory(operator) => divisor_by(forms, operator, arguments),
+        Head::Theory(operator) if divides(operator) => divisor(forms, arguments),
         _ => Ok(0),
     }
 }

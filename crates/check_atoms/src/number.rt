@@ -1,13 +1,12 @@
 //! The numbers of atoms of parts.
 ghost use Rattle.std.specs.Prelude.{◌≡◌, ℕ, ◌<◌, [], ◌∷◌, length, map, List, All, OnOk, IfOk, IfErr, ◌⊎◌};
 ghost use Rattle.smt_meaning.specs.Term.{Tree};
+ghost use Rattle.smt_meaning.specs.declared.clauses.Atom.{Atom};
 ghost use Rattle.atom_form.specs.Compact.{atom_of as core_atom};
 ghost use Rattle.linear_forms.specs.Table.{AreForms};
 ghost use Rattle.linear_forms.specs.Differences.{KnowsForms, Refuses};
 ghost use Rattle.pair_bounds.specs.Pairs.{IsBound};
-ghost use Rattle.pair_bounds.specs.Rows.{limit_of_row, IsRowLimit, RefusesLimit};
-ghost use Rattle.smt_meaning.specs.Atoms.{limit_atom};
-ghost use Rattle.smt_laws.specs.Rows.{place_form};
+ghost use Rattle.pair_bounds.specs.Rows.{IsRowLimit, RefusesLimit};
 ghost use Rattle.bound_clauses.specs.Orders.{bound_atom};
 ghost use Rattle.check_atoms.specs.declared.refusal.Refusal.TheVariants.{Memory};
 ghost use Rattle.check_atoms.specs.PartAtoms.{atom_of};
@@ -59,29 +58,6 @@ fn refusal_of(error: DifferenceError, part: TermId, order: Order) -> Refusal
     }
 }
 
-/// Numbers the bound that says an order, for a part.
-fn number_order(
-    forms: &mut LinearForms,
-    atoms: &mut AtomNumbers,
-    sum: &mut Vec<Summand>,
-    part: TermId,
-    order: Order,
-) -> Result<(), Refusal>
-    requires lesser { order.lesser < length forms.old }
-    requires greater { order.greater < length forms.old }
-    requires known { KnowsForms forms.old }
-    ensures ok { (trees : List Tree) → AreForms trees forms.old → OnOk result (Adds (length trees) atoms.old.atoms (bound_atom trees order ∷ []) atoms.new.atoms) }
-    ensures err { (trees : List Tree) → AreForms trees forms.old → IfErr result (λ e. (e ≡ Memory) ⊎ RefusesOrder trees part order e) }
-    ensures same { forms.new ≡ forms.old }
-{
-    let threshold = match bound_of(forms, order, sum) {
-        Ok(threshold) => threshold,
-        Err(error) => return Err(refusal_of(error, part, order)),
-    };
-    let _number = atoms.number_bound(sum, threshold)?;
-    Ok(())
-}
-
 fn refusal_of_limit(error: DifferenceError, part: TermId, limit: RowLimit) -> Refusal
     ensures { (trees : List Tree) → RefusesLimit trees limit error → (result ≡ Memory) ⊎ RefusesRow trees part limit result }
 {
@@ -92,24 +68,11 @@ fn refusal_of_limit(error: DifferenceError, part: TermId, limit: RowLimit) -> Re
     }
 }
 
-/// Numbers the bound of a limit, for a part.
-fn number_limit(
-    forms: &mut LinearForms,
-    atoms: &mut AtomNumbers,
-    sum: &mut Vec<Summand>,
-    part: TermId,
-    limit: RowLimit,
-) -> Result<(), Refusal>
-    requires limit { IsRowLimit (length forms.old) limit }
-    requires known { KnowsForms forms.old }
-    ensures ok { (trees : List Tree) → AreForms trees forms.old → OnOk result (Adds (length trees) atoms.old.atoms (limit_atom (place_form trees) (limit_of_row limit) ∷ []) atoms.new.atoms) }
-    ensures err { (trees : List Tree) → AreForms trees forms.old → IfErr result (λ e. (e ≡ Memory) ⊎ RefusesRow trees part limit e) }
-    ensures same { forms.new ≡ forms.old }
+/// Numbers a bound with this sum and threshold.
+fn number_bound(atoms: &mut AtomNumbers, sum: &[Summand], threshold: i128) -> Result<(), Refusal>
+    ensures ok { (trees : List Tree) (atom : Atom) → IsBound trees atom sum.now threshold → OnOk result (Adds (length trees) atoms.old.atoms (atom ∷ []) atoms.new.atoms) }
+    ensures err { IfErr result (λ e. e ≡ Memory) }
 {
-    let threshold = match row_bound(forms, limit, sum) {
-        Ok(threshold) => threshold,
-        Err(error) => return Err(refusal_of_limit(error, part, limit)),
-    };
     let _number = atoms.number_bound(sum, threshold)?;
     Ok(())
 }
@@ -131,8 +94,14 @@ fn number_atom(
     match atom {
         PartAtom::Truth(place) => number_core(atoms, CompactAtom::Truth(place)),
         PartAtom::Same(left, right) => number_core(atoms, CompactAtom::Same(left, right)),
-        PartAtom::Bound(order) => number_order(forms, atoms, sum, part, order),
-        PartAtom::Limit(limit) => number_limit(forms, atoms, sum, part, limit),
+        PartAtom::Bound(order) => match bound_of(forms, order, sum) {
+            Ok(threshold) => number_bound(atoms, sum, threshold),
+            Err(error) => Err(refusal_of(error, part, order)),
+        },
+        PartAtom::Limit(limit) => match row_bound(forms, limit, sum) {
+            Ok(threshold) => number_bound(atoms, sum, threshold),
+            Err(error) => Err(refusal_of_limit(error, part, limit)),
+        },
     }
 }
 

@@ -302,31 +302,7 @@ fn add_compared(
     }
 }
 
-/// Adds the atoms of a part: its truth, if it is a Bool, and those that compare its arguments, or the bounds of its rows by this divisor.
-fn add_part(
-    atoms: &mut Vec<PartAtom>,
-    space: &mut Compared,
-    sorts: &[Sort],
-    divisor: i128,
-    place: TermId,
-    head: Head,
-    arguments: &[TermId],
-) -> Result<(), AllocError>
-    requires divisor { InRange divisor }
-    requires place { place < length sorts.now }
-    requires arguments { All (λ i. i < length sorts.now) arguments.now }
-    ensures { OnOk result (atoms.new.items ≡ atoms.old.items ++ of_part (sort_in sorts.now) divisor place head arguments.now) }
-{
-    add_truth(atoms, sorts, place)?;
-    match head {
-        Head::Theory(operator) => {
-            add_compared(atoms, space, sorts, divisor, place, operator, arguments)
-        }
-        _ => Ok(()),
-    }
-}
-
-/// Adds the truth of a part alone, or all of its atoms.
+/// Adds the truth of a part, if it is a Bool, and unless that is wanted alone, the atoms that compare its arguments, or the bounds of its rows by this divisor.
 pub(crate) fn add_wanted(
     atoms: &mut Vec<PartAtom>,
     space: &mut Compared,
@@ -342,8 +318,11 @@ pub(crate) fn add_wanted(
     requires arguments { All (λ i. i < length sorts.now) arguments.now }
     ensures { OnOk result (atoms.new.items ≡ atoms.old.items ++ wanted_of (sort_in sorts.now) truth_alone divisor place head arguments.now) }
 {
-    if truth_alone {
-        return add_truth(atoms, sorts, place);
+    add_truth(atoms, sorts, place)?;
+    match head {
+        Head::Theory(operator) if !truth_alone => {
+            add_compared(atoms, space, sorts, divisor, place, operator, arguments)
+        }
+        _ => Ok(()),
     }
-    add_part(atoms, space, sorts, divisor, place, head, arguments)
 }

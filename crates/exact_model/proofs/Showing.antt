@@ -34,7 +34,7 @@ use Rattle.exact_model.specs.Exact.{exact_at, listed}
 use Rattle.exact_model.proofs.Heads.{leaf_value}
 use Rattle.exact_model.specs.Leaves.{HaveLeafValues}
 use Rattle.exact_model.specs.Shown.{GiveExactValues, IsTrueAt, IsTrueIn, IsUnfit}
-use Rattle.exact_model.proofs.Giving.{mark_within, different_of}
+use Rattle.model_build.proofs.Placing.{mark_within, different_of}
 
 both_false : (a b : Bool) → b ≡ false → (a && b) ≡ false
 both_false true b e = e

@@ -3,6 +3,7 @@ use Rattle.std.proofs.Common.{◌≡◌, ℕ, suc, ◌<◌, Bool, true, false, �
 use Rattle.std.specs.Prelude.{if◌then◌else◌}
 use Rattle.std.proofs.lemmas.Bool.{eqb-true}
 use Rattle.std.proofs.lemmas.List.Elements.{All-nil, All-cons, All-head, All-tail, All-weaker, All-contains, All-map, Contains-append_left, Contains-append_right, Contains-push}
+use Rattle.smt_laws.proofs.Both.{and_left, and_right}
 use Rattle.literals.specs.Signed.{Signed, opposite}
 use Rattle.smt_meaning.specs.declared.values.Sort.{Sort}
 use Rattle.smt_meaning.specs.declared.values.Sort.TheVariants.{Bool as Truths, Int as Ints, Free}
@@ -32,7 +33,7 @@ use Rattle.search_port.proofs.Forcing.{ComesBy, from_map, in_map, forces_renamed
 use Rattle.atom_form.specs.AtomTableNumbers.{IsAt}
 use Rattle.check_atoms.specs.Atoms.{is_bool_at}
 use Rattle.scope_stack.proofs.SortLemmas.{HasArguments, arguments_of, HasFirst, first_of, stands_so, if_so_is, the_some}
-use Rattle.check_atoms.proofs.Sorting.{left_true, right_true, if_so_true, sort_is, all_of_one}
+use Rattle.check_atoms.proofs.Sorting.{if_so_true, sort_is, all_of_one}
 use Rattle.check_atoms.proofs.StackAtomsPlaces.{Picked, picked}
 use Rattle.first_clauses.specs.PartClausesFirst.{IsForced, written_literal}
 use Rattle.first_clauses.proofs.Numbering.{number_of, numbers_apart}
@@ -155,7 +156,7 @@ ite_all (c ∷ a ∷ []) r h e = absurd cc
 ite_all (c ∷ a ∷ b ∷ []) r h e =
     let both : (sort_eq c Truths && sort_eq a b) ≡ true = if_so_true (sort_eq c Truths && sort_eq a b) a r h in
     let branch : a ≡ Truths = if_so_is (sort_eq c Truths && sort_eq a b) a r h ∙ e in
-    three_truths c a b (sort_is c Truths (left_true (sort_eq c Truths) (sort_eq a b) both)) branch (sym (sort_is a b (right_true (sort_eq c Truths) (sort_eq a b) both)) ∙ branch)
+    three_truths c a b (sort_is c Truths (and_left (sort_eq c Truths) (sort_eq a b) both)) branch (sym (sort_is a b (and_right (sort_eq c Truths) (sort_eq a b) both)) ∙ branch)
 ite_all (c ∷ a ∷ b ∷ d ∷ ss) r h e = absurd cc
 
 -- it is a Bool
@@ -195,8 +196,8 @@ module _ (ds : List Declaration) (trees : List Tree) where
   two_bools [] h = absurd cc
   two_bools (i ∷ []) h = absurd cc
   two_bools (i ∷ j ∷ []) h =
-      All-cons (λ k. is_bool_at ds trees k ≡ true) i (j ∷ []) (left_true (is_bool_at ds trees i) (is_bool_at ds trees j) h)
-      (All-cons (λ k. is_bool_at ds trees k ≡ true) j [] (right_true (is_bool_at ds trees i) (is_bool_at ds trees j) h) (All-nil (λ k. is_bool_at ds trees k ≡ true)))
+      All-cons (λ k. is_bool_at ds trees k ≡ true) i (j ∷ []) (and_left (is_bool_at ds trees i) (is_bool_at ds trees j) h)
+      (All-cons (λ k. is_bool_at ds trees k ≡ true) j [] (and_right (is_bool_at ds trees i) (is_bool_at ds trees j) h) (All-nil (λ k. is_bool_at ds trees k ≡ true)))
   two_bools (i ∷ j ∷ k ∷ is) h = absurd cc
 
   none_bools : (is : List ℕ) → nat_eq (length is) 0 ≡ true → All (λ i. is_bool_at ds trees i ≡ true) is

@@ -3,6 +3,7 @@ use Rattle.std.proofs.Common.{◌≡◌, ◌≢◌, inl, inr, ℕ, ◌<◌, ◌�
 use Rattle.std.specs.Prelude.{Option, IsTrue, if◌then◌else◌}
 use Rattle.std.proofs.lemmas.List.{get_or_default, map-append}
 use Rattle.std.proofs.lemmas.List.Elements.{All-nil, All-cons, All-head, All-tail, All-append, All-map, All-weaker, All-contains, Contains-append_cases, Contains-push_cases}
+use Rattle.smt_laws.proofs.Both.{and_left, and_right}
 use Rattle.literals.specs.Signed.{Signed}
 use Rattle.clause_store.specs.Stored.{Kept}
 use Rattle.smt_meaning.specs.declared.values.Sort.{Sort}
@@ -47,7 +48,7 @@ use Rattle.check_atoms.specs.AssertedDistinct.{IsAssertedDistinct}
 use Rattle.check_atoms.specs.PartAtoms.{atom_of, by_sort, alone_by_sort, neighbours_from, of_equal, sort_of}
 use Rattle.check_atoms.specs.OfStack.{IsNode, AreCheckAtoms}
 use Rattle.check_atoms.specs.Laws.{PartsHaveNumbers}
-use Rattle.check_atoms.proofs.Sorting.{sort_is, left_true, right_true}
+use Rattle.check_atoms.proofs.Sorting.{sort_is}
 use Rattle.check_atoms.proofs.StackAtomsPlaces.{Picked}
 use Rattle.order_clauses.specs.declared.pairs.Pair.{Pair}
 use Rattle.order_clauses.specs.Pairs.{pair, neighbours, orders_of_pair}
@@ -186,8 +187,8 @@ module _ (s : Stack) (marks : List Bool) (sorts : List Sort) (table : List Atom)
   listed_all : (r : Sort) (is : List ℕ) → all_of r (map (sort_at sorts) is) ≡ true → All (λ i. sort_at sorts i ≡ r) is
   listed_all r [] h = All-nil (λ i. sort_at sorts i ≡ r)
   listed_all r (i ∷ is) h =
-      All-cons (λ j. sort_at sorts j ≡ r) i is (sym (sort_is r (sort_at sorts i) (left_true (sort_eq r (sort_at sorts i)) (all_of r (map (sort_at sorts) is)) h)))
-      (listed_all r is (right_true (sort_eq r (sort_at sorts i)) (all_of r (map (sort_at sorts) is)) h))
+      All-cons (λ j. sort_at sorts j ≡ r) i is (sym (sort_is r (sort_at sorts i) (and_left (sort_eq r (sort_at sorts i)) (all_of r (map (sort_at sorts) is)) h)))
+      (listed_all r is (and_right (sort_eq r (sort_at sorts i)) (all_of r (map (sort_at sorts) is)) h))
 
   module _ (p : ℕ) (o : Operator) (is : List ℕ) (m : IsMarked marks p) (n : IsNode ts p (Theory o) is) where
     pub marked_arguments : All (IsMarked marks) is

@@ -133,26 +133,6 @@ fn fold_leaf(work: &mut Work, place: TermId) -> Result<i128, Stop>
     Ok(0)
 }
 
-/// Multiplies the forms of some terms.
-fn fold_factors(
-    entries: &[Entry],
-    all: &[Summand],
-    work: &mut Work,
-    arguments: &[TermId],
-) -> Result<i128, Stop>
-    requires laid { AreLaid (length all.now) entries.now }
-    requires places { All (λ i. i < length entries.now) arguments.now }
-    requires ready { IsReady work.old }
-    ensures ok { IfOk result (λ n. form_of work.new.sum.items n ≡ folded form_product (forms_at (knowns all.now entries.now) arguments.now)) }
-    ensures fits { IfOk result (λ n. folded_fits form_product (forms_at (knowns all.now entries.now) arguments.now) ≡ true) }
-    ensures ranges { IfOk result (λ n. sum_fits work.new.sum.items ≡ true) }
-    ensures range { result ≡ Err Stop.Range → folded_fits form_product (forms_at (knowns all.now entries.now) arguments.now) ≡ false }
-    ensures ready { IsReady work.new }
-{
-    work.sum.clear();
-    fold_product(entries, all, &mut work.sum, &mut work.spare, arguments)
-}
-
 /// The form of a term with an operator of the theories, from those of its arguments.
 fn fold_operator(
     entries: &[Entry],
@@ -173,7 +153,10 @@ fn fold_operator(
     match operator {
         Operator::Add => fold_combined(entries, all, work, arguments, false, place as usize),
         Operator::Subtract => fold_combined(entries, all, work, arguments, true, place as usize),
-        Operator::Multiply => fold_factors(entries, all, work, arguments),
+        Operator::Multiply => {
+            work.sum.clear();
+            fold_product(entries, all, &mut work.sum, &mut work.spare, arguments)
+        }
         _ => fold_leaf(work, place),
     }
 }

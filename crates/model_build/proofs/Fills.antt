@@ -1,7 +1,7 @@
 -- How a table is filled.
 use Rattle.std.proofs.Common.{◌≡◌, ◌≢◌, ℕ, zero, suc, ◌+◌, ◌-◌, ◌<◌, ◌≤◌, nat_eq, Bool, true, false, List, [], ◌∷◌, ◌++◌, length, get_or, take, drop, map, All, refl, sym, ap, subst, ◌∙◌, inl, inr, arith, eq-eqb}
 use Rattle.std.specs.Prelude.{AllPairs, Contains, ◌⊎◌, if◌then◌else◌}
-use Rattle.std.proofs.lemmas.Bool.{eqb-true, ne_eqb}
+use Rattle.std.proofs.lemmas.Bool.{cond-false, cond-true, eqb-true, ne_eqb}
 use Rattle.std.proofs.lemmas.List.{get_or-map, length-map, take_more}
 use Rattle.std.proofs.lemmas.List.Elements.{All-push, All-nil, All-weaker, Contains-append_left, Contains-append_right, Contains-push}
 use Rattle.std.proofs.lemmas.List.Quantifiers.{all_pairs_push}
@@ -23,14 +23,6 @@ use Rattle.term_store.proofs.Links.{IsLink, Goes, goes, goes_on, hash_there}
 pub on_bool : {A : Type 0} (P : A → Type 0) (b : Bool) (x y : A) → (b ≡ true → P x) → (b ≡ false → P y) → P (if b then x else y)
 on_bool P true x y t f = t refl
 on_bool P false x y t f = f refl
-
-pub chosen : {A : Type 0} (b : Bool) (x y : A) → b ≡ true → (if b then x else y) ≡ x
-chosen true x y h = refl
-chosen false x y h = cc
-
-pub passed : {A : Type 0} (b : Bool) (x y : A) → b ≡ false → (if b then x else y) ≡ y
-passed true x y h = cc
-passed false x y h = refl
 
 -- ---- members
 
@@ -59,10 +51,10 @@ module _ (ts : List Tree) (gs : List Given) where
       (λ h. with_place_symbol p (filled ts gs t ps) ∙ filled_symbol t ps) (λ h. filled_symbol t ps)
 
   pub filled_own : (t : Table) (p : ℕ) (ps : List ℕ) → symbol_at ts p ≡ t.symbol → filled ts gs t (p ∷ ps) ≡ with_place ts gs p (filled ts gs t ps)
-  filled_own t p ps h = chosen (nat_eq (symbol_at ts p) t.symbol) (with_place ts gs p (filled ts gs t ps)) (filled ts gs t ps) (eq-eqb (symbol_at ts p) t.symbol h)
+  filled_own t p ps h = cond-true (nat_eq (symbol_at ts p) t.symbol) (with_place ts gs p (filled ts gs t ps)) (filled ts gs t ps) (eq-eqb (symbol_at ts p) t.symbol h)
 
   pub filled_other : (t : Table) (p : ℕ) (ps : List ℕ) → symbol_at ts p ≢ t.symbol → filled ts gs t (p ∷ ps) ≡ filled ts gs t ps
-  filled_other t p ps h = passed (nat_eq (symbol_at ts p) t.symbol) (with_place ts gs p (filled ts gs t ps)) (filled ts gs t ps) (ne_eqb (symbol_at ts p) t.symbol h)
+  filled_other t p ps h = cond-false (nat_eq (symbol_at ts p) t.symbol) (with_place ts gs p (filled ts gs t ps)) (filled ts gs t ps) (ne_eqb (symbol_at ts p) t.symbol h)
 
   filled_skip : (t : Table) (ps : List ℕ) (link m : ℕ) → link ≤ m → m ≤ length ps → ((k : ℕ) → link ≤ k → k < m → get_or (map (symbol_at ts) ps) k 0 ≢ t.symbol)
       → filled ts gs t (drop link ps) ≡ filled ts gs t (drop m ps)
@@ -204,7 +196,7 @@ module _ (ts : List Tree) (gs : List Given) where
       by (inl e) later' =
           subst (λ (u : Table). Contains u.rows (row_at ts gs q))
           (sym (filled_own t p ps (ap (symbol_at ts) e ∙ symbol)
-          ∙ chosen (has_row (arguments_given ts gs p)) (record (filled ts gs t ps) { rows = (filled ts gs t ps).rows ++ row_at ts gs p ∷ [] })
+          ∙ cond-true (has_row (arguments_given ts gs p)) (record (filled ts gs t ps) { rows = (filled ts gs t ps).rows ++ row_at ts gs p ∷ [] })
           (record (filled ts gs t ps) { default = value_of (given_at gs p) }) (ap (λ n. has_row (arguments_given ts gs n)) e ∙ plain)))
           (subst (λ n. Contains ((filled ts gs t ps).rows ++ row_at ts gs n ∷ []) (row_at ts gs q)) (sym e) (Contains-push (filled ts gs t ps).rows (row_at ts gs q)))
 

@@ -1,5 +1,6 @@
 -- What is found in a table's rows, and the values that places are given.
 use Rattle.std.proofs.Common.{◌≡◌, ◌≢◌, Bool, true, false, List, [], ◌∷◌, map, All, refl, sym, ap, ◌∙◌, inl, inr, arith}
+use Rattle.std.proofs.lemmas.Bool.{cond-false}
 use Rattle.std.specs.Prelude.{◌&&◌, ◌||◌, ◌⊎◌, not, Contains, if◌then◌else◌}
 use Rattle.std.proofs.lemmas.List.Elements.{All-head, All-tail}
 use Rattle.smt_meaning.specs.declared.values.Value.{Value}
@@ -11,7 +12,7 @@ use Rattle.model_build.specs.declared.given.Given.{Given}
 use Rattle.model_build.specs.declared.given.Given.TheVariants.{Unmarked, InRange, PastRange}
 use Rattle.model_build.specs.Given.{is_marked, is_past, has_past}
 use Rattle.model_build.specs.Filling.{value_of, has_row}
-use Rattle.model_build.proofs.Fills.{member_cases, passed}
+use Rattle.model_build.proofs.Fills.{member_cases}
 
 -- ---- equal values
 
@@ -58,7 +59,7 @@ look_found (x ∷ rs) default v vs r all m there =
 pub look_none : (rs : List Row) (default : Value) (vs : List Value) → All (λ (x : Row). x.arguments ≢ vs) rs → look rs default vs ≡ default
 look_none [] default vs all = refl
 look_none (x ∷ rs) default vs all =
-    passed (same_values vs x.arguments) x.value (look rs default vs)
+    cond-false (same_values vs x.arguments) x.value (look rs default vs)
     (false_by (same_values vs x.arguments) (λ e. All-head (λ (y : Row). y.arguments ≢ vs) x rs all (sym (same_values-true vs x.arguments e))))
     ∙ look_none rs default vs (All-tail (λ (y : Row). y.arguments ≢ vs) x rs all)
 

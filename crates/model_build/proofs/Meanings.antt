@@ -1,7 +1,7 @@
 -- The tables that are made, and the values of terms under them.
 use Rattle.std.proofs.Common.{◌≡◌, ◌≢◌, ℕ, ◌<◌, Bool, true, false, not, nat_eq, List, [], ◌∷◌, length, get_or, map, All, refl, sym, ap, subst, ◌∙◌, inl, inr, arith, eq-eqb}
 use Rattle.std.specs.Prelude.{◌&&◌, ◌||◌, ◌⊎◌, Contains, IsTrue, MatchBool, Some, if◌then◌else◌}
-use Rattle.std.proofs.lemmas.Bool.{eqb-true, ne_eqb}
+use Rattle.std.proofs.lemmas.Bool.{cond-false, cond-true, eqb-true, ne_eqb}
 use Rattle.std.proofs.lemmas.List.Elements.{All-head, All-tail, All-contains, All-weaker, Contains-get_or}
 use Rattle.std.proofs.Math.Bool.{and-false}
 use Rattle.smt_meaning.specs.declared.values.Value.{Value}
@@ -27,7 +27,7 @@ use Rattle.model_build.specs.Filling.{value_of, has_row, row_at, filled, default
 use Rattle.model_build.proofs.Alike.{past_alike, same_alike, from_past, from_same}
 use Rattle.model_build.proofs.Kept.{symbol_is, one_of, key_back, key_along}
 use Rattle.model_build.proofs.Looking.{same_from_values, row_in_range, row_not_empty, rowless, in_range_is, look_found, look_none, left_true, or_left, or_right}
-use Rattle.model_build.proofs.Fills.{IsRowOf, IsDefaultOf, IsUntouched, AreApart, filled_symbol, rows_of, has_its_row, default_is, rows_apart, in_first, in_rest, member_cases, chosen, passed}
+use Rattle.model_build.proofs.Fills.{IsRowOf, IsDefaultOf, IsUntouched, AreApart, filled_symbol, rows_of, has_its_row, default_is, rows_apart, in_first, in_rest, member_cases}
 use Rattle.model_build.proofs.Sorting.{IsSortedAt, sorted_at, have_given_sorts, have_values_sorts, have_values_in_range, value_sort, no_sorts, some_sorts, stands_there, within, both_true}
 
 -- ---- declarations
@@ -42,12 +42,12 @@ the_function (e ∷ es) d once member symbol = by (member_cases e d es member) (
   where
     by : (e ≡ d) ⊎ Contains es d → (Contains es d → function_with_id d.id es ≡ Some d) → (if nat_eq d.id e.id && not e.is_sort then Some e else function_with_id d.id es) ≡ Some d
     by (inl same) next =
-        chosen (nat_eq d.id e.id && not e.is_sort) (Some e) (function_with_id d.id es)
+        cond-true (nat_eq d.id e.id && not e.is_sort) (Some e) (function_with_id d.id es)
         (both_true (nat_eq d.id e.id) (not e.is_sort) (eq-eqb d.id e.id (ap (λ (x : Declaration). x.id) (sym same))) (ap (λ (x : Declaration). not x.is_sort) same ∙ is_function d symbol))
         ∙ ap Some same
     by (inr rest) next =
         let other : d.id ≢ e.id = λ x. All-contains (λ (y : Declaration). e.id ≢ y.id) es d once.0 rest (sym x) in
-        passed (nat_eq d.id e.id && not e.is_sort) (Some e) (function_with_id d.id es) (ap (λ b. b && not e.is_sort) (ne_eqb d.id e.id other)) ∙ next rest
+        cond-false (nat_eq d.id e.id && not e.is_sort) (Some e) (function_with_id d.id es) (ap (λ b. b && not e.is_sort) (ne_eqb d.id e.id other)) ∙ next rest
 
 found_id : (ds : List Declaration) (f : ℕ) (d : Declaration) → function_with_id f ds ≡ Some d → d.id ≡ f
 found_id [] f d e = absurd cc
@@ -77,7 +77,7 @@ meaning_of ts gs ps (e ∷ es) f d vs found symbol = by (nat_eq f e.id && not e.
     skipped : (s : Bool) → is_symbol e ≡ s → (nat_eq f e.id && not e.is_sort) ≡ false
         → meaning (if s then table_of ts gs ps e ∷ tables_of ts gs ps es else tables_of ts gs ps es) f vs ≡ meaning (tables_of ts gs ps es) f vs
     skipped true s h =
-        passed (nat_eq f (table_of ts gs ps e).symbol) (value_in e) (meaning (tables_of ts gs ps es) f vs)
+        cond-false (nat_eq f (table_of ts gs ps e).symbol) (value_in e) (meaning (tables_of ts gs ps es) f vs)
         (ap (nat_eq f) (table_symbol ts gs ps e) ∙ and_false (nat_eq f e.id) (not e.is_sort) h (is_function e s))
     skipped false s h = refl
 
@@ -86,8 +86,8 @@ meaning_of ts gs ps (e ∷ es) f d vs found symbol = by (nat_eq f e.id && not e.
     by true h q next =
         let same : e ≡ d = cc in
         ap (λ (xs : List Table). meaning xs f vs)
-        (chosen (is_symbol e) (table_of ts gs ps e ∷ tables_of ts gs ps es) (tables_of ts gs ps es) (ap is_symbol same ∙ symbol))
-        ∙ chosen (nat_eq f (table_of ts gs ps e).symbol) (value_in e) (meaning (tables_of ts gs ps es) f vs) (ap (nat_eq f) (table_symbol ts gs ps e) ∙ left_true (nat_eq f e.id) (not e.is_sort) h)
+        (cond-true (is_symbol e) (table_of ts gs ps e ∷ tables_of ts gs ps es) (tables_of ts gs ps es) (ap is_symbol same ∙ symbol))
+        ∙ cond-true (nat_eq f (table_of ts gs ps e).symbol) (value_in e) (meaning (tables_of ts gs ps es) f vs) (ap (nat_eq f) (table_symbol ts gs ps e) ∙ left_true (nat_eq f e.id) (not e.is_sort) h)
         ∙ ap value_in same
     by false h q next = skipped (is_symbol e) refl h ∙ next q
 

@@ -29,7 +29,7 @@ marked_given Unmarked s h = absurd cc
 marked_given (InRange v) s h = refl
 marked_given PastRange s h = refl
 
-mark_within : (marks : List Bool) (p : ℕ) → IsMarked marks p → p < length marks
+pub mark_within : (marks : List Bool) (p : ℕ) → IsMarked marks p → p < length marks
 mark_within marks p m = by (cases_lt p (length marks))
   where
     by : (p < length marks) ⊎ (length marks ≤ p) → p < length marks
@@ -44,6 +44,58 @@ arguments_picked trees order p h us less e =
     (b.0, b.2, b.3)
     ))
 
+pub different_of : (trees : List Tree) → AreInOrder trees → AreDifferent trees
+different_of trees order j k l h e = let same : j ≡ k = order.different j k (omega arith) h e in omega arith
+
+-- ---- what is given by the marks and the sorts
+
+pub record AreGivenAt (trees : List Tree) (marks : List Bool) (sorts : List Sort) (gs : List Given) : Type 0 where
+  pub unmarked : (p : ℕ) → p < length trees → slice_index_or marks p false ≡ false → given_at gs p ≡ Unmarked
+  pub sorted : (p : ℕ) → p < length trees → IsMarked marks p → is_given_of (given_at gs p) (slice_index_or sorts p Truths) ≡ true
+
+module _ (ds : List Declaration) (trees : List Tree) (marks : List Bool) (sorts : List Sort) (gs : List Given) (at : AreGivenAt trees marks sorts gs) (parts : AreSortedParts ds trees marks)
+    (are : AreSorts ds trees (length trees) sorts) (order : AreInOrder trees) where
+  pub within : (p : ℕ) → IsMarked marks p → p < length trees
+  within p m = subst (λ n. p < n) parts.size (mark_within marks p m)
+
+  pub mark_of : (p : ℕ) → p < length trees → is_marked (given_at gs p) ≡ true → IsMarked marks p
+  mark_of p less m = by (slice_index_or marks p false) refl
+    where
+      by : (b : Bool) → slice_index_or marks p false ≡ b → IsMarked marks p
+      by true h = h
+      by false h = let k : is_marked (given_at gs p) ≡ false = ap is_marked (at.unmarked p less h) in absurd cc
+
+  pub marked : (p : ℕ) → IsMarked marks p → is_marked (given_at gs p) ≡ true
+  marked p m = marked_given (given_at gs p) (slice_index_or sorts p Truths) (at.sorted p (within p m) m)
+
+  given_sorted : (p : ℕ) → IsMarked marks p → IsGivenOf (given_at gs p) (tree_sort ds (tree_at trees p))
+  given_sorted p m =
+      let s = parts.sorted p m in
+      subst (IsGivenOf (given_at gs p)) (sym s.1) (subst (λ r. is_given_of (given_at gs p) r ≡ true) (are.each p s.0 (within p m) s.1) (at.sorted p (within p m) m))
+
+  all_marked : (is : List ℕ) → All (IsMarked marks) is → All (λ g. is_marked g ≡ true) (map (given_at gs) is)
+  all_marked [] h = All-nil (λ g. is_marked g ≡ true)
+  all_marked (i ∷ is) h =
+      All-cons (λ g. is_marked g ≡ true) (given_at gs i) (map (given_at gs) is) (marked i (All-head (IsMarked marks) i is h)) (all_marked is (All-tail (IsMarked marks) i is h))
+
+  arguments_marked : (p : ℕ) (h : Head) (us : Trees) → p < length trees → IsMarked marks p → tree_at trees p ≡ node h us → All (λ g. is_marked g ≡ true) (givens trees gs us)
+  arguments_marked p h us less m e =
+      let a = arguments_picked trees order p h us less e in
+      subst (λ vs. All (λ g. is_marked g ≡ true) (givens trees gs vs)) a.are
+      (subst (All (λ g. is_marked g ≡ true)) (sym (givens-pick trees gs a.places (different_of trees order) a.within))
+      (all_marked a.places (parts.closed p h a.places m (e ∙ ap (node h) (sym a.are)) a.within)))
+
+  closed : (p : ℕ) (t : Tree) → p < length trees → IsMarked marks p → tree_at trees p ≡ t → All (λ g. is_marked g ≡ true) (givens trees gs (arguments_of t))
+  closed p (node h us) less m e = arguments_marked p h us less m e
+
+  pub given_so : length gs ≡ length trees → ((f p : ℕ) → IsApplication trees gs f p → is_past (given_at gs p) ≡ false) → AreGiven ds trees gs
+  given_so size applications = record {
+    size = size;
+    sorts = λ p less m. given_sorted p (mark_of p less m);
+    closed = λ p less m. closed p (tree_at trees p) less (mark_of p less m) refl;
+    applications = applications;
+  }
+
 module _ (ds : List Declaration) (trees : List Tree) (marks : List Bool) (sorts : List Sort) (ts : List Bool) (ns : List ℤ) (es : List ℕ) where
   pub all_pushed : (k : ℕ) (gs : List Given) (g : Given) → length gs ≡ k → AllGiven trees marks sorts ts ns es k gs → IsPlaceGiven trees marks sorts ts ns es k g
       → AllGiven trees marks sorts ts ns es (k + 1) (gs ++ g ∷ [])
@@ -57,58 +109,19 @@ module _ (ds : List Declaration) (trees : List Tree) (marks : List Bool) (sorts 
 
   module _ (gs : List Given) (size : length gs ≡ length trees) (each : AllGiven trees marks sorts ts ns es (length trees) gs) (parts : AreSortedParts ds trees marks)
       (are : AreSorts ds trees (length trees) sorts) (order : AreInOrder trees) where
-    within : (p : ℕ) → IsMarked marks p → p < length trees
-    within p m = subst (λ n. p < n) parts.size (mark_within marks p m)
-
-    mark_of : (p : ℕ) → p < length trees → is_marked (given_at gs p) ≡ true → IsMarked marks p
-    mark_of p less m = by (slice_index_or marks p false) refl
-      where
-        by : (b : Bool) → slice_index_or marks p false ≡ b → IsMarked marks p
-        by true h = h
-        by false h = let k : is_marked (given_at gs p) ≡ false = ap is_marked ((each p less).unmarked h) in absurd cc
-
-    marked : (p : ℕ) → IsMarked marks p → is_marked (given_at gs p) ≡ true
-    marked p m = marked_given (given_at gs p) (slice_index_or sorts p Truths) ((each p (within p m)).sorted m)
-
-    sort_kept : (p : ℕ) (s : Sort) → IsMarked marks p → tree_sort ds (tree_at trees p) ≡ Some s → slice_index_or sorts p Truths ≡ s
-    sort_kept p s m has = are.each p s (within p m) has
-
-    given_sorted : (p : ℕ) → IsMarked marks p → IsGivenOf (given_at gs p) (tree_sort ds (tree_at trees p))
-    given_sorted p m =
-        let s = parts.sorted p m in
-        subst (IsGivenOf (given_at gs p)) (sym s.1) (subst (λ r. is_given_of (given_at gs p) r ≡ true) (sort_kept p s.0 m s.1) ((each p (within p m)).sorted m))
-
-    all_marked : (is : List ℕ) → All (IsMarked marks) is → All (λ g. is_marked g ≡ true) (map (given_at gs) is)
-    all_marked [] h = All-nil (λ g. is_marked g ≡ true)
-    all_marked (i ∷ is) h =
-        All-cons (λ g. is_marked g ≡ true) (given_at gs i) (map (given_at gs) is) (marked i (All-head (IsMarked marks) i is h)) (all_marked is (All-tail (IsMarked marks) i is h))
-
-    different : AreDifferent trees
-    different j k l h e = let same : j ≡ k = order.different j k (omega arith) h e in omega arith
-
-    arguments_marked : (p : ℕ) (h : Head) (us : Trees) → p < length trees → IsMarked marks p → tree_at trees p ≡ node h us → All (λ g. is_marked g ≡ true) (givens trees gs us)
-    arguments_marked p h us less m e =
-        let a = arguments_picked trees order p h us less e in
-        subst (λ vs. All (λ g. is_marked g ≡ true) (givens trees gs vs)) a.are
-        (subst (All (λ g. is_marked g ≡ true)) (sym (givens-pick trees gs a.places different a.within))
-        (all_marked a.places (parts.closed p h a.places m (e ∙ ap (node h) (sym a.are)) a.within)))
-
-    closed : (p : ℕ) (t : Tree) → p < length trees → IsMarked marks p → tree_at trees p ≡ t → All (λ g. is_marked g ≡ true) (givens trees gs (arguments_of t))
-    closed p (node h us) less m e = arguments_marked p h us less m e
+    given : AreGivenAt trees marks sorts gs
+    given = record { unmarked = λ p less h. (each p less).unmarked h; sorted = λ p less m. (each p less).sorted m }
 
     pub give_chosen : GiveChosen ds trees marks ts ns es gs
-    give_chosen p s m has plain = (each p (within p m)).is_chosen m plain ∙ ap (λ r. InRange (chosen ts ns es r p)) (sort_kept p s m has)
+    give_chosen p s m has plain =
+        let less : p < length trees = within ds trees marks sorts gs given parts are order p m in
+        (each p less).is_chosen m plain ∙ ap (λ r. InRange (chosen ts ns es r p)) (are.each p s less has)
 
     application_inside : (f p : ℕ) → IsApplication trees gs f p → is_past (given_at gs p) ≡ false
-    application_inside f p a = ap is_past ((each p a.within).is_chosen (mark_of p a.within a.marked) (ap is_worked_out a.symbol))
+    application_inside f p a = ap is_past ((each p a.within).is_chosen (mark_of ds trees marks sorts gs given parts are order p a.within a.marked) (ap is_worked_out a.symbol))
 
     pub are_given : AreGiven ds trees gs
-    are_given = record {
-      size = size;
-      sorts = λ p less m. given_sorted p (mark_of p less m);
-      closed = λ p less m. closed p (tree_at trees p) less (mark_of p less m) refl;
-      applications = application_inside;
-    }
+    are_given = given_so ds trees marks sorts gs given parts are order size application_inside
 
 pub give_no_others : (trees : List Tree) (marks : List Bool) (sorts : List Sort) (ts : List Bool) (ns : List ℤ) (es : List ℕ) (gs : List Given) → length gs ≡ length trees
     → AllGiven trees marks sorts ts ns es (length trees) gs → GiveNoOthers marks gs

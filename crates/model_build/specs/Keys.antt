@@ -1,27 +1,14 @@
 -- How the applications are gone through: the first of those with like arguments is kept, and found by a hash. No public contract speaks of it.
-use Rattle.std.specs.Prelude.{◌≡◌, ℕ, ℤ, pos, ◌<◌, ◌≤◌, ◌/◌, ◌%◌, ◌^◌, Bool, List, [], ◌∷◌, map, length, All, AllPairs, Contains, int_lt, unsigned_abs, if◌then◌else◌}
-use Rattle.smt_meaning.specs.declared.values.Value.{Value}
-use Rattle.smt_meaning.specs.declared.values.Value.TheVariants.{Truth, Whole, Element}
+use Rattle.std.specs.Prelude.{◌≡◌, ℕ, ◌<◌, ◌≤◌, ◌/◌, ◌^◌, List, [], ◌∷◌, map, length, All, AllPairs, Contains, if◌then◌else◌}
 use Rattle.smt_meaning.specs.declared.terms.Head.{Head}
 use Rattle.smt_meaning.specs.declared.terms.Head.TheVariants.{Numeral, Theory, Symbol, Place}
 use Rattle.smt_meaning.specs.Term.{Tree, tree_at}
-use Rattle.term_store.specs.Hash.{mixed}
+use Rattle.term_store.specs.Hash.{mixed, value_state}
 use Rattle.model_build.specs.declared.given.Given.{Given}
 use Rattle.model_build.specs.declared.given.Given.TheVariants.{Unmarked, InRange, PastRange}
 use Rattle.model_build.specs.Given.{given_at, has_past, head_of, arguments_given, IsApplication, AreAlike}
 
 -- ---- hashes
-
-abbrev pub truth_word : Bool → ℕ
-truth_word p = if p then 1 else 0
-
-abbrev pub number_state : ℕ → ℤ → ℕ
-number_state state n = mixed (mixed (mixed state (truth_word (int_lt n (pos 0)))) (unsigned_abs n % 2 ^ 64)) (unsigned_abs n / 2 ^ 64)
-
-abbrev pub value_state : ℕ → Value → ℕ
-value_state state (Truth p) = mixed state (truth_word p)
-value_state state (Whole n) = number_state state n
-value_state state (Element e) = mixed state e
 
 -- the state of a hash after what one more place is given
 abbrev pub given_state : ℕ → Given → ℕ

@@ -1,23 +1,13 @@
--- How clauses lie in one list of codes.
-use Rattle.std.specs.Prelude.{ℕ, ◌<◌, ◌≤◌, List, length, map, All, Contains, slice_index_or, slice_range}
+-- Clauses as ascending lists of codes.
+use Rattle.std.specs.Prelude.{ℕ, List, map, All, Contains}
 use Rattle.proof_form.specs.Kept.{AreAscending}
-use Rattle.proof_form.specs.declared.clauses_laid.Span.{Span}
 
-abbrev pub clause_in : List ℕ → Span → List ℕ
-clause_in codes s = slice_range codes s.start s.end
+-- each row is a clause
+abbrev pub clauses_in : List (Unit {0} × List ℕ) → List (List ℕ)
+clauses_in rows = map (λ r. r.1) rows
 
-abbrev pub clauses_in : List ℕ → List Span → List (List ℕ)
-clauses_in codes spans = map (clause_in codes) spans
-
--- each clause is a part of the list
-pub record AreLaid (size : ℕ) (spans : List Span) : Type 0 where
-  pub starts : (k : ℕ) (d : Span) → k < length spans → (slice_index_or spans k d).start ≤ (slice_index_or spans k d).end
-  pub ends : (k : ℕ) (d : Span) → k < length spans → (slice_index_or spans k d).end ≤ size
-
--- and ascends
-pub record IsLaid (codes : List ℕ) (spans : List Span) : Type 0 where
-  pub laid : AreLaid (length codes) spans
-  pub ascending : All AreAscending (clauses_in codes spans)
+abbrev pub AllAscend : List (Unit {0} × List ℕ) → Type 0
+AllAscend rows = All AreAscending (clauses_in rows)
 
 -- the same codes, each once
 pub record IsSetOf (codes set : List ℕ) : Type 0 where

@@ -4,23 +4,24 @@ ghost use Rattle.atom_form.specs.Compact.{atom_of};
 ghost use Rattle.smt_meaning.specs.declared.clauses.Atom.TheVariants.{AtMost as BoundAtom};
 ghost use Rattle.proof_meaning.specs.Proof.{literal};
 ghost use Rattle.proof_form.specs.Kept.{IsCodeOf, GoOn, sign_code};
-ghost use Rattle.proof_form.specs.ClausesLaid.{IsLaid, clauses_in};
+ghost use Rattle.proof_form.specs.ClausesLaid.{AllAscend, clauses_in};
 ghost use Rattle.proof_form.specs.ClausesMerged.{IsResolved};
 
-use crate::clauses_laid::{Span, append, clause_at, order};
+use crate::clauses_laid::{append, clause_at, order};
 use crate::clauses_merge::merge;
 use atom_form::{AtomNumbers, CompactAtom};
 use smt_meaning::{Atom, Summand, TermId};
 use std::alloc::{AllocError, Global};
 use std::marker::Model;
 use std::mem;
+use term_store::Rows;
 
 /// The clauses of the steps so far, and the numbers of their atoms.
 #[derive(Drop)]
 pub(crate) struct Clauses {
     atoms: AtomNumbers,
-    codes: Vec<u32>,
-    spans: Vec<Span>,
+    /// The codes of each clause.
+    clauses: Rows<()>,
     scratch: Vec<u32>,
 }
 
@@ -33,11 +34,11 @@ impl Model for Clauses {
 
     ghost coded = { kept_code };
 
-    ghost use Rattle.proof_form.specs.ClausesLaid.{IsLaid, clauses_in};
+    ghost use Rattle.proof_form.specs.ClausesLaid.{AllAscend, clauses_in};
 
-    ghost view = { λ c. record { atoms = c.atoms.atoms; clauses = clauses_in c.codes.items c.spans.items } };
+    ghost view = { λ c. record { atoms = c.atoms.atoms; clauses = clauses_in c.clauses } };
 
-    ghost invariant = { λ c. IsLaid c.codes.items c.spans.items };
+    ghost invariant = { λ c. AllAscend c.clauses };
 }
 
 /// Twice the number of an atom, and one more for the positive literal.
@@ -75,29 +76,28 @@ fn bound_code(
 
 /// Adds the clause of two, without a literal of the one and its negation of the other.
 fn resolve(
-    codes: &mut Vec<u32>,
-    spans: &mut Vec<Span>,
+    clauses: &mut Rows<()>,
     scratch: &mut Vec<u32>,
     left: usize,
     right: usize,
     code: u32,
     negation: u32,
 ) -> Result<(), AllocError>
-    requires laid { IsLaid codes.old.items spans.old.items }
-    requires left { left < length spans.old.items }
-    requires right { right < length spans.old.items }
+    requires ascend { AllAscend clauses.old }
+    requires left { left < length clauses.old }
+    requires right { right < length clauses.old }
     requires different { code ≢ negation }
-    ensures laid { IsLaid codes.new.items spans.new.items }
-    ensures ok { OnOk result (IsResolved (clauses_in codes.old.items spans.old.items) (clauses_in codes.new.items spans.new.items) left right code negation) }
+    ensures ascend { AllAscend clauses.new }
+    ensures ok { OnOk result (IsResolved (clauses_in clauses.old) (clauses_in clauses.new) left right code negation) }
 {
     merge(
-        clause_at(codes, spans, left),
-        clause_at(codes, spans, right),
+        clause_at(clauses, left),
+        clause_at(clauses, right),
         code,
         negation,
         scratch,
     )?;
-    append(codes, spans, scratch)
+    append(clauses, scratch)
 }
 
 impl Clauses {
@@ -114,8 +114,7 @@ impl Clauses {
     {
         Clauses {
             atoms: AtomNumbers::new(alloc),
-            codes: Vec::new(alloc),
-            spans: Vec::new(alloc),
+            clauses: Rows::new(alloc),
             scratch: Vec::new(alloc),
         }
     }
@@ -126,7 +125,7 @@ impl Clauses {
         ensures apart { AreApart self.now.atoms }
     {
         self.atoms.are_apart();
-        self.spans.len()
+        self.clauses.len()
     }
 
     /// The codes of a clause, ascending.
@@ -134,7 +133,7 @@ impl Clauses {
         requires { place < length self.now.clauses }
         ensures { slice_index_or self.now.clauses place [] ≡ result.now }
     {
-        clause_at(&self.codes, &self.spans, place)
+        clause_at(&self.clauses, place)
     }
 
     /// The code of a literal on a truth, whose atom gets a number. An `Err` changes nothing.
@@ -202,7 +201,7 @@ impl Clauses {
         ensures atoms { self.new.atoms ≡ self.old.atoms }
     {
         order(codes);
-        append(&mut self.codes, &mut self.spans, codes)
+        append(&mut self.clauses, codes)
     }
 
     /// Keeps the clause of two that are kept, without a code of the one and another of the other.
@@ -220,8 +219,7 @@ impl Clauses {
         ensures atoms { self.new.atoms ≡ self.old.atoms }
     {
         resolve(
-            &mut self.codes,
-            &mut self.spans,
+            &mut self.clauses,
             &mut self.scratch,
             left,
             right,

@@ -19,6 +19,6 @@ returns-in-Subtract-clause-ok c =
 
 pub returns-in-Multiply-clause-ok : goal.returns-in-Multiply-clause-ok
 returns-in-Multiply-clause-ok c =
-    each_of_three c.fold_factors.result _ _ _ _ c.fold_factors.ensures.ok c.fold_factors.ensures.fits c.fold_factors.ensures.ranges (λ n e f r.
-    subst (λ o. IsFolded (Theory o) (forms_at (knowns c.args.all.now c.args.entries.now) c.args.arguments.now) c.args.place (form_of c.fold_factors.new.work.sum.items n)) (sym c.in-Multiply.is)
-    (folded_multiply c.args.place (knowns c.args.all.now c.args.entries.now) c.args.arguments.now c.requires.sums (form_of c.fold_factors.new.work.sum.items n) f e r))
+    each_of_three c.fold_product.result _ _ _ _ c.fold_product.ensures.ok c.fold_product.ensures.fits c.fold_product.ensures.ranges (λ n e f r.
+    subst (λ o. IsFolded (Theory o) (forms_at (knowns c.args.all.now c.args.entries.now) c.args.arguments.now) c.args.place (form_of c.fold_product.new.product.items n)) (sym c.in-Multiply.is)
+    (folded_multiply c.args.place (knowns c.args.all.now c.args.entries.now) c.args.arguments.now c.requires.sums (form_of c.fold_product.new.product.items n) f e r))

@@ -1,7 +1,8 @@
-use Rattle.std.proofs.Common.{subst, sym}
-use Rattle.proof_form.specs.Kept.{AreAscending}
-use Rattle.proof_form.proofs.ClausesPlaces.{clause_ascends}
+use Rattle.proof_form.proofs.ClausesPlaces.{clause_ascends, clause_row}
 use Rattle.proof_form.proofs.clauses_laid.clause_at.Goals as goal
 
+pub returns-clause-clause : goal.returns-clause-clause
+returns-clause-clause c = clause_row c.args.rows.now c.args.number c.numbers.result.now c.requires.number c.numbers.ensures
+
 pub returns-clause-ascending : goal.returns-clause-ascending
-returns-clause-ascending c = subst AreAscending (sym c.part.ensures) (clause_ascends c.args.all.now c.args.spans.now c.args.number _ c.requires.laid c.requires.number)
+returns-clause-ascending c = clause_ascends c.args.rows.now c.args.number c.numbers.result.now c.requires.ascend c.requires.number c.numbers.ensures

@@ -2,7 +2,7 @@ use Rattle.std.proofs.Common.{length, subst}
 use Rattle.point_closure.specs.declared.classes.Reason.TheVariants.{Step as AtStep}
 use Rattle.point_closure.specs.declared.pending.Pending.{Pending}
 use Rattle.point_closure.specs.declared.step.Step.{Step}
-use Rattle.point_closure.specs.declared.step.Step.TheVariants.{Merge, Differ}
+use Rattle.point_closure.specs.declared.step.Step.TheVariants.{Merge}
 use Rattle.point_closure.specs.Whole.{IsLast, IsWithin, state_of}
 use Rattle.point_closure.proofs.KeepsLemmas.{keeps_more}
 use Rattle.point_closure.proofs.BackLemmas.{differ_rest, merge_stands}
