@@ -74,26 +74,6 @@ fn sort_at(table: &Table, terms: &TermStore, sorts: &[Sort], id: TermId) -> Sort
     }
 }
 
-/// Adds the sorts of the terms from a place on. An `Err`, for want of memory, may leave some.
-fn add_sorts(
-    table: &Table,
-    terms: &TermStore,
-    from: TermId,
-    sorts: &mut Vec<Sort>,
-) -> Result<(), AllocError>
-    requires within { from ≤ length terms.now.trees }
-    requires given { HaveGivenSymbols table.now.given terms.now.trees }
-    requires facts { AreFacts table.now terms.now.trees from sorts.old.items }
-    ensures facts { OnOk result (AreFacts table.now terms.now.trees (length terms.now.trees) sorts.new.items) }
-    ensures kept { take from sorts.new.items ≡ sorts.old.items }
-{
-    for id in from..terms.len() {
-        let sort = sort_at(table, terms, sorts, id);
-        sorts.push(sort)?;
-    }
-    Ok(())
-}
-
 /// The level of a head's symbol, 0 where it has none. Of a symbol that isn't declared it is any.
 fn head_level(table: &Table, head: Head) -> u16
     requires { length table.now.levels ≤ 65536 }
@@ -136,26 +116,6 @@ fn level_at(table: &Table, terms: &TermStore, levels: &[u16], id: TermId) -> u16
     greatest(levels, node.arguments, level)
 }
 
-/// Adds the levels of the terms from a place on. An `Err`, for want of memory, may leave some.
-fn add_levels(
-    table: &Table,
-    terms: &TermStore,
-    from: TermId,
-    levels: &mut Vec<u16>,
-) -> Result<(), AllocError>
-    requires few { length table.now.levels ≤ 65536 }
-    requires within { from ≤ length terms.now.trees }
-    requires levels { HaveLevels table.now terms.now.trees from levels.old.items }
-    ensures levels { OnOk result (HaveLevels table.now terms.now.trees (length terms.now.trees) levels.new.items) }
-    ensures kept { take from levels.new.items ≡ levels.old.items }
-{
-    for id in from..terms.len() {
-        let level = level_at(table, terms, levels, id);
-        levels.push(level)?;
-    }
-    Ok(())
-}
-
 impl TermFacts {
     ghost use Rattle.std.specs.Prelude.{◌≡◌, take, [], OnOk};
     ghost use Rattle.scope_stack.specs.Facts.{AreExtended, KeepFirst, MayExtend};
@@ -182,8 +142,13 @@ impl TermFacts {
         ensures extended { OnOk result (AreExtended table.now terms.now.trees self.new.sorts.items self.new.levels.items) }
         ensures kept { KeepFirst from self.old.sorts.items self.new.sorts.items self.old.levels.items self.new.levels.items }
     {
-        add_sorts(table, terms, from, &mut self.sorts)?;
-        add_levels(table, terms, from, &mut self.levels)
+        for id in from..terms.len() {
+            let sort = sort_at(table, terms, &self.sorts, id);
+            let level = level_at(table, terms, &self.levels, id);
+            self.sorts.push(sort)?;
+            self.levels.push(level)?;
+        }
+        Ok(())
     }
 
     /// Keeps those of the first terms, so many. It takes no memory.

@@ -97,17 +97,20 @@ EndsSo part Whole = (start content : List ℕ) → IsPart part start
 EndsSo part Halted = (start content : List ℕ) → goes_on part start content [] ≡ unended start
 EndsSo part Formless = (start content : List ℕ) → IsPart part start → goes_on part start content [] ≡ wrong start
 
--- What was passed over at the front of the bytes: they were read from one part on to another.
-pub record Passes (old next : Part) (bytes : List ℕ) (passed : ℕ) : Type 0 where
-  pub within : passed ≤ length bytes
-  pub part : (start : List ℕ) → IsPart old start → IsPart next (start ++ take passed bytes)
-  pub rest : (start content more : List ℕ) → goes_on old start content (bytes ++ more) ≡ goes_on next (start ++ take passed bytes) content (drop passed bytes ++ more)
+-- What was read at the front of the bytes, from one part on to another, where the content of a text or a quoted symbol becomes this by the bytes that were read.
+pub record Reads (grown : List ℕ → List ℕ → List ℕ) (old next : Part) (bytes : List ℕ) (count : ℕ) : Type 0 where
+  pub within : count ≤ length bytes
+  pub part : (start : List ℕ) → IsPart old start → IsPart next (start ++ take count bytes)
+  pub rest : (start content more : List ℕ)
+      → goes_on old start content (bytes ++ more) ≡ goes_on next (start ++ take count bytes) (grown content (take count bytes)) (drop count bytes ++ more)
 
--- What was added at the front of the bytes to the content of a text or a quoted symbol: they were read from one part on to another.
-pub record Extends (old next : Part) (bytes : List ℕ) (added : ℕ) : Type 0 where
-  pub within : added ≤ length bytes
-  pub part : (start : List ℕ) → IsPart old start → IsPart next (start ++ take added bytes)
-  pub rest : (start content more : List ℕ) → goes_on old start content (bytes ++ more) ≡ goes_on next (start ++ take added bytes) (content ++ take added bytes) (drop added bytes ++ more)
+-- They were passed over: the content stays.
+abbrev pub Passes : Part → Part → List ℕ → ℕ → Type 0
+Passes old next bytes passed = Reads (λ content front. content) old next bytes passed
+
+-- They were added to the content.
+abbrev pub Extends : Part → Part → List ℕ → ℕ → Type 0
+Extends old next bytes added = Reads (λ content front. content ++ front) old next bytes added
 
 -- The byte after those that were passed over does something.
 abbrev pub StopsAt : Part → List ℕ → ℕ → Option Turn → Type 0

@@ -197,10 +197,8 @@ impl Table {
         ensures ok { OnOk result (IsNewFunction name.now (signature self.now)) }
         ensures err { IfErr result (λ e. IsCause e (is_one_of name.now reserved_functions) (find_function name.now (signature self.now))) }
     {
-        check_name(
-            reserved::is_reserved_function(name),
-            self.lookup(name).is_some(),
-        )
+        let is_declared = self.lookup(name).is_some();
+        check_name(reserved::is_reserved_function(name), is_declared)
     }
 
     /// Whether a sort of this name may be declared.
@@ -208,10 +206,8 @@ impl Table {
         ensures ok { OnOk result (IsNewSort name.now (signature self.now)) }
         ensures err { IfErr result (λ e. IsCause e (is_one_of name.now reserved_sorts) (find_sort name.now (signature self.now))) }
     {
-        check_name(
-            reserved::is_reserved_sort(name),
-            self.find_sort(name).is_some(),
-        )
+        let is_declared = self.find_sort(name).is_some();
+        check_name(reserved::is_reserved_sort(name), is_declared)
     }
 
     /// The next id. `TooManySymbols` comes exactly where none is left.

@@ -2,7 +2,7 @@ use Rattle.std.proofs.Common.{◌≡◌, ◌+◌, ◌<◌, length, get_or, arith
 use Rattle.std.proofs.lemmas.Grind.{common_steps}
 use Rattle.std.proofs.lemmas.List.{take_rest}
 use Rattle.smt_reader.specs.Parts.{GoesOnTo, Passes}
-use Rattle.smt_reader.proofs.PartRuns.{passes_more, passes_next}
+use Rattle.smt_reader.proofs.PartRuns.{reads_more, stays, passes_next}
 use Rattle.smt_reader.proofs.part.Part.run.Goals as goal
 
 pub loop-byte-preserved : goal.loop-byte-preserved
@@ -11,7 +11,7 @@ loop-byte-preserved c =
     let part = c.loop-byte.part in
     let passed = c.loop-byte.passed in
     let steady = c.steady-passed.result in
-    let on = passes_more c.args.self part part bytes passed steady c.loop-byte.invariant
+    let on = reads_more stays c.args.self part part bytes passed steady c.loop-byte.invariant
     (subst (λ left. Passes part part left steady) (take_rest bytes passed) c.steady-passed.ensures) in
     let lt : passed + steady < length bytes = grind (arith, common_steps, c.in-Some.ensures.lookup) in
     let byte : c.in-Some.byte.now ≡ get_or bytes (passed + steady) 0 = grind (arith, common_steps, c.in-Some.ensures.lookup) in
@@ -23,5 +23,5 @@ returns-in-Turns-clause-passes c =
     let part = c.loop-byte.part in
     let passed = c.loop-byte.passed in
     let steady = c.steady-passed.result in
-    passes_more c.args.self part part bytes passed steady c.loop-byte.invariant
+    reads_more stays c.args.self part part bytes passed steady c.loop-byte.invariant
     (subst (λ left. Passes part part left steady) (take_rest bytes passed) c.steady-passed.ensures)
