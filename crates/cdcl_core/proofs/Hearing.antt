@@ -1,5 +1,5 @@
 -- Calls of a hook, one between any two units.
-use Rattle.std.proofs.Common.{◌≡◌, ℕ, ◌+◌, ◌<◌, ◌≤◌, ◌⊎◌, min, MatchBool, Bool, true, false, List, [], ◌∷◌, ◌++◌, All, Contains, length, ap, subst, sym, ◌∙◌, refl, inl, inr, arith}
+use Rattle.std.proofs.Common.{◌≡◌, ℕ, ◌+◌, ◌<◌, ◌≤◌, ◌⊎◌, min, MatchBool, Bool, true, false, List, [], ◌∷◌, ◌++◌, All, Contains, length, append_assoc, ap, subst, sym, ◌∙◌, refl, inl, inr, arith}
 use Rattle.std.proofs.lemmas.List.{length-append}
 use Rattle.std.proofs.lemmas.List.Elements.{All-nil, All-push, All-weaker, Contains-append_left, Contains-push}
 use Rattle.search_port.specs.State.{TheoryState}
@@ -8,7 +8,8 @@ use Rattle.search_port.specs.Spending.{Spending}
 use Rattle.search_port.specs.declared.budget.Lemma.{Lemma}
 use Rattle.search_port.specs.declared.budget.Spent.{Spent as SpentUnit}
 use Rattle.search_port.specs.declared.budget.Spent.TheVariants.{Learnt as SpentLearnt}
-use Rattle.cdcl_core.specs.Turns.{GainsByOne, GainsOne, HeardBetween, IsAccounted, IsPartly}
+use Rattle.cdcl_core.specs.Turns.{GainsByOne, GainsOne, HeardBetween, HearsAll, HearsSome, IsAccounted, IsPartly, PutsDown, PutsOne}
+use Rattle.cdcl_core.proofs.Adding.{puts-gains, puts-most}
 
 -- a call at this number of units
 abbrev pub HasCall : List Spending → ℕ → Type 0
@@ -101,6 +102,40 @@ heard-end Led old now new le next gains h = record {
     between : (n : ℕ) → length old.units < n → n < length new.units → HasCall h.calls n
     between n lt e = h.each n lt (omega arith)
 
+-- ---- calls after a turn
+
+heard-two : (Led Led2 : List Spending → Type 0) (old now b m : Spending) → length old.units ≤ length now.units → length now.units ≤ length b.units → length b.units ≤ length now.units + 1 → GainsOne now.short b.short → PutsDown b m → Heard Led old now
+    → ((calls : List Spending) → Led calls → Led2 (calls ++ b ∷ m ∷ [])) → Heard Led2 old m
+heard-two Led Led2 old now b m above le next gains puts h more =
+    let one : length m.units ≡ length b.units + 1 = puts.one in
+    heard-call (λ (calls : List Spending). Led2 (calls ++ m ∷ [])) Led2 old b m (omega arith) (omega arith) (omega arith) puts.gains
+    (heard-call Led (λ (calls : List Spending). Led2 (calls ++ m ∷ [])) old now b above le next gains h (λ calls led. subst Led2 (sym (append_assoc calls (b ∷ []) (m ∷ []))) (more calls led)))
+    (λ calls led. led)
+
+partly-least : (b c : Spending) → IsPartly b c → length b.units ≤ length c.units
+partly-least b c p = let e : length c.units ≡ length b.units = ap (λ (us : List SpentUnit). length us) p.units in omega arith
+
+partly-most : (b c : Spending) → IsPartly b c → length c.units ≤ length b.units
+partly-most b c p = let e : length c.units ≡ length b.units = ap (λ (us : List SpentUnit). length us) p.units in omega arith
+
+puts-least : (b c : Spending) → PutsOne b c → length b.units ≤ length c.units
+puts-least b c (inl p) = partly-least b c p
+puts-least b c (inr p) = let e : length c.units ≡ length b.units + 1 = p.one in omega arith
+
+pub heard-all : (Led New Led2 : List Spending → Type 0) (old now b c : Spending) → length old.units ≤ length now.units → length now.units ≤ length b.units → length b.units ≤ length now.units + 1 → GainsOne now.short b.short → Heard Led old now
+    → ((ms ns : List Spending) → Led ms → New ns → Led2 (ms ++ ns)) → HearsAll New b c → Heard Led2 old c
+heard-all Led New Led2 old now b c above le next gains h both (inl (led, p)) =
+    heard-on Led2 old b c (partly-least b c p) (partly-most b c p) p.short (heard-call Led Led2 old now b above le next gains h (λ calls x. both calls (b ∷ []) x led))
+heard-all Led New Led2 old now b c above le next gains h both (inr (m, led, puts, p)) =
+    heard-on Led2 old m c (partly-least m c p) (partly-most m c p) p.short (heard-two Led Led2 old now b m above le next gains puts h (λ calls x. both calls (b ∷ m ∷ []) x led))
+
+pub heard-some : (Led New Led2 : List Spending → Type 0) (old now b c : Spending) → length old.units ≤ length now.units → length now.units ≤ length b.units → length b.units ≤ length now.units + 1 → GainsOne now.short b.short → Heard Led old now
+    → ((ms ns : List Spending) → Led ms → New ns → Led2 (ms ++ ns)) → HearsSome New b c → HeardBetween Led2 old c
+heard-some Led New Led2 old now b c above le next gains h both (inl (led, p)) =
+    heard-end Led2 old b c (puts-least b c p) (puts-most b c p) (puts-gains b c p) (heard-call Led Led2 old now b above le next gains h (λ calls x. both calls (b ∷ []) x led))
+heard-some Led New Led2 old now b c above le next gains h both (inr (m, led, puts, p)) =
+    heard-end Led2 old m c (partly-least m c p) (let k : length c.units ≤ length m.units = partly-most m c p in omega arith) (inl p.short) (heard-two Led Led2 old now b m above le next gains puts h (λ calls x. both calls (b ∷ m ∷ []) x led))
+
 -- ---- units that are spent
 
 -- a call that is lent one unit spends at most one
@@ -119,6 +154,3 @@ learnt-one false us vs clause e = let k : length vs ≡ length us = ap length e 
 
 pub accounted-one : (b c : Spending) (clause : Lemma) → IsAccounted b c clause → length c.units ≤ length b.units + 1
 accounted-one b c clause a = learnt-one b.counts_learnt b.units c.units clause a.units
-
-pub partly-none : (b c : Spending) → IsPartly b c → length c.units ≤ length b.units + 1
-partly-none b c p = let k : length c.units ≡ length b.units = ap length p.units in omega arith

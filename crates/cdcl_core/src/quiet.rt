@@ -1,24 +1,24 @@
 //! How far a clause that is added asks to take decisions back.
-ghost use Rattle.std.specs.Prelude.{◌≡◌, ℕ, ◌<◌, ◌≤◌, min, max, List, Contains, All, length};
+ghost use Rattle.std.specs.Prelude.{◌≡◌, ℕ, ◌<◌, ◌≤◌, min, max, List, [], ◌∷◌, ◌++◌, Contains, All, length};
 ghost use Rattle.literals.specs.Signed.{Signed};
-ghost use Rattle.clause_store.specs.Trail.{Assigns};
+ghost use Rattle.clause_store.specs.Trail.{Assigns, up_to};
 ghost use Rattle.clause_store.specs.declared.trail.Step.{Step};
-ghost use Rattle.cdcl_core.specs.Search.{IsQuietBelow};
+ghost use Rattle.cdcl_core.specs.Search.{IsNarrow, IsQuietBelow};
 ghost use Rattle.clause_store.specs.From.{IsFrom};
-ghost use Rattle.cdcl_core.specs.Quiet.{IsLatest, Lasts};
+ghost use Rattle.cdcl_core.specs.Quiet.{IsLatest, IsLongest, Lasts};
 
 use clause_store::store::Store;
 use clause_store::trail::Status;
 use literals::Literal;
 
-// Below depth `until` a literal isn't false, and from depth `from` on it is true.
+// Below depth `until` a literal isn't false, and from there on it is; below depth `from` it isn't true, and from there on it is.
 #[derive(Clone, Copy)]
 pub struct Span {
     until: u32,
     from: u32,
 }
 
-// Of a clause: a literal that isn't false below depth `until`; two different ones aren't below depth `both`, and one is true from depth `from` on.
+// Of a clause: a literal that isn't false below depth `until`; two different ones aren't below depth `both`, from where on all but the one are; one is true from depth `from` on, and none below.
 #[derive(Clone, Copy)]
 pub struct Latest {
     literal: Literal,
@@ -73,7 +73,8 @@ fn greatest(a: u32, b: u32) -> u32
 
 // A literal of the clause joins those that were looked at.
 fn joined(latest: Latest, literal: Literal, span: Span) -> Latest
-    ensures { (steps : List Step) (ls : List Signed) → Contains ls literal → Lasts steps literal span → IsLatest steps ls latest → IsLatest steps ls result }
+    ensures latest { (steps : List Step) (ls : List Signed) → Contains ls literal → Lasts steps literal span → IsLatest steps ls latest → IsLatest steps ls result }
+    ensures longest { (steps : List Step) (seen : List Signed) → Lasts steps literal span → IsLongest steps seen latest → IsLongest steps (seen ++ literal ∷ []) result }
 {
     let from = least(latest.from, span.from);
     if literal == latest.literal {
@@ -104,7 +105,8 @@ fn joined(latest: Latest, literal: Literal, span: Span) -> Latest
 fn look(store: &Store, literals: &[Literal]) -> Latest
     requires some { 0 < length literals.now }
     requires known { All (λ (l : Signed). l.atom < store.now.trail.atoms) literals.now }
-    ensures { IsLatest store.now.trail.steps literals.now result }
+    ensures latest { IsLatest store.now.trail.steps literals.now result }
+    ensures longest { IsLongest store.now.trail.steps literals.now result }
 {
     let literal = literals[0];
     let first = span_of(store, literal);
@@ -120,11 +122,12 @@ fn look(store: &Store, literals: &[Literal]) -> Latest
     latest
 }
 
-// The greatest depth below which the clause is quiet, at most the present one.
+// The greatest depth below which the clause is quiet, at most the present one. Where it is less, there all its literals are false but one, which isn't true.
 pub fn quiet_below(store: &Store, literals: &[Literal]) -> u32
     requires known { All (λ (l : Signed). l.atom < store.now.trail.atoms) literals.now }
     ensures within { result ≤ store.now.trail.depth }
     ensures quiet { IsQuietBelow store.now literals.now result }
+    ensures narrow { result < store.now.trail.depth → 0 < length literals.now → IsNarrow (up_to result store.now.trail.steps) literals.now }
 {
     let _steps = store.steps();
     let depth = store.depth();

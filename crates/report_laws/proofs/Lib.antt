@@ -9,6 +9,9 @@ mod TwoLeaves
 mod Sum
 mod Chained
 mod ToAndFro
+mod UnderBounds
+mod Tightened
+mod Finite
 mod Cores
 mod Minimum
 mod Boxed

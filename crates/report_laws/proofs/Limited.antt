@@ -275,6 +275,47 @@ module _ (ts : List Tree) (frames : List Frame) (branches : List Line) (limit : 
       by (Numbered a) (Pivot l) i unit y k h = h
       by (Learnt d) (Pivot l) i unit y k h = h
 
+-- ---- the units that aren't pivots
+
+abbrev pub others : List Spent → List Spent
+others [] = []
+others (Learnt c ∷ us) = Learnt c ∷ others us
+others (Numbered a ∷ us) = Numbered a ∷ others us
+others (Pivot l ∷ us) = others us
+
+abbrev IsOther : Spent → Type 0
+IsOther u = (l : Line) → u ≡ Pivot l → ⊥
+
+among_others : (us : List Spent) (u : Spent) → Contains (others us) u → Contains us u × IsOther u
+among_others [] u c = absurd (in_none u c)
+among_others (Learnt d ∷ us) u c = elim (in_cons (Learnt d) u (others us) c) [
+  | inl e ↦ (subst (Contains (Learnt d ∷ us)) (sym e) (first_in (Learnt d) us), λ l f. let z : Learnt d ≡ Pivot l = sym e ∙ f in absurd (cc))
+  | inr later ↦ let h = among_others us u later in (later_in (Learnt d) u us h.0, h.1)
+]
+among_others (Numbered a ∷ us) u c = elim (in_cons (Numbered a) u (others us) c) [
+  | inl e ↦ (subst (Contains (Numbered a ∷ us)) (sym e) (first_in (Numbered a) us), λ l f. let z : Numbered a ≡ Pivot l = sym e ∙ f in absurd (cc))
+  | inr later ↦ let h = among_others us u later in (later_in (Numbered a) u us h.0, h.1)
+]
+among_others (Pivot m ∷ us) u c = let h = among_others us u c in (later_in (Pivot m) u us h.0, h.1)
+
+others_apart : (us : List Spent) → AreApart StandsFor us → AreApart StandsFor (others us)
+others_apart [] h = tt
+others_apart (Learnt d ∷ us) h = (λ z c y k j. h.0 z (among_others us z c).0 y k j, others_apart us h.1)
+others_apart (Numbered a ∷ us) h = (λ z c y k j. h.0 z (among_others us z c).0 y k j, others_apart us h.1)
+others_apart (Pivot m ∷ us) h = others_apart us h.1
+
+pub few_others : (ts : List Tree) (frames : List Frame) (branches : List Line) (limit : ℤ) (worker : ℕ) (us : List Spent) (atoms : List Atom) → ((a : Atom) → IsCheckAtom ts frames branches a → Contains atoms a)
+    → AllCount worker (length atoms) → AreUnits ts frames branches limit worker us → length (others us) ≤ length atoms + 3 ^ length atoms
+few_others ts frames branches limit worker us atoms each counted units =
+    let apart : AreApart StandsFor us = apart_by StandsFor us (stands_once ts frames branches limit worker atoms each counted us units) in
+    let short : length (others us) ≤ length (standing atoms) = no_longer StandsFor (others us) (standing atoms) (others_apart us apart) (λ u c. (
+    let k = among_others us u c in
+    let s = split_at us u k.0 in
+    has_standing ts frames branches limit worker atoms each counted s.front u k.1 (units s.front s.back u s.is)
+    )) in
+    let size : length (standing atoms) ≡ length atoms + 3 ^ length atoms = standing_count atoms in
+    omega (arith, short, size)
+
 -- ---- reports
 
 pub few_units : FewUnitsAreNotSpent

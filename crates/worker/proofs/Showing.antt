@@ -1,14 +1,18 @@
 -- What a search over a stack shows where it ends without an answer.
-use Rattle.std.proofs.Common.{◌≡◌, inl, inr, ◌⊎◌, ℕ, suc, ◌+◌, ◌<◌, Bool, true, false, not, ◌||◌, List, [], ◌∷◌, ◌++◌, map, length, All, Contains, get_or, subst, sym, ap, ◌∙◌, arith, refl}
+use Rattle.std.proofs.Common.{◌≡◌, inl, inr, ◌⊎◌, ℕ, zero, suc, ◌+◌, ◌<◌, Bool, true, false, not, ◌||◌, List, [], ◌∷◌, ◌++◌, map, length, All, Contains, get_or, subst, sym, ap, ◌∙◌, arith, refl}
 use Rattle.std.specs.Prelude.{ℤ, Option, Some, None, IfSome}
 use Rattle.std.specs.List.{range_with_len}
 use Rattle.std.proofs.lemmas.List.{append-nil, length-map, length-append}
-use Rattle.std.proofs.lemmas.List.Elements.{All-nil, All-weaker, All-contains, Contains-append_right}
+use Rattle.std.proofs.lemmas.List.Elements.{All-nil, All-head, All-tail, All-weaker, All-contains, Contains-append_right}
 use Rattle.literals.specs.Signed.{Signed}
 use Rattle.clause_store.specs.Stored.{Kept, Stored}
-use Rattle.fraction128.specs.declared.Line.{Line}
 use Rattle.fraction128.specs.declared.Summand.{Summand}
-use Rattle.fraction128.specs.Lines.{Bounding, IsPivotIn, basis_along, exchanged, first_basis}
+use Rattle.fraction128.specs.declared.Line.{Line}
+use Rattle.fraction128.specs.declared.Column.{Column}
+use Rattle.fraction128.specs.declared.Grid.{Grid}
+use Rattle.fraction128.specs.Grid.{column_at}
+use Rattle.fraction128.specs.Lines.{Bounding, exchanged, first_basis}
+use Rattle.fraction128.specs.Chain.{left_by, unbounded, unbounded_column}
 use Rattle.smt_meaning.specs.declared.clauses.Atom.{Atom}
 use Rattle.smt_meaning.specs.declared.clauses.Atom.TheVariants.{Truth}
 use Rattle.smt_meaning.specs.declared.clauses.Literal.{Literal}
@@ -20,25 +24,25 @@ use Rattle.smt_meaning.specs.StackCommand.{Stack}
 use Rattle.smt_meaning.specs.Atoms.{stack_atoms}
 use Rattle.smt_meaning.specs.CheckAtoms.{IsBoundOf, IsCheckAtom}
 use Rattle.smt_meaning.specs.Ranges.{LeavesRange}
-use Rattle.smt_meaning.specs.Report.{IsPastRange, IsUnit, AreUnits, basis_after, is_unlimited, most_units}
+use Rattle.smt_meaning.specs.Report.{IsPastRange, IsUnit, AreUnits, AreChained, is_unlimited, most_units}
 use Rattle.scope_stack.specs.Shown.{IsLawful}
-use Rattle.search_port.specs.State.{Reading, TheoryState, IsGrown, atom_at}
+use Rattle.search_port.specs.State.{Reading, TheoryState, Variables, IsGrown, atom_at}
 use Rattle.search_port.specs.Showing.{IsShowing}
 use Rattle.search_port.specs.Spending.{Spending}
 use Rattle.search_port.specs.Valid.{FollowsAt, FollowsAsWritten}
 use Rattle.search_port.specs.Forcing.{ForcesByNumbers, ForcesInTurn}
 use Rattle.search_port.specs.Calls.{IsNoPivot, numbers}
-use Rattle.search_port.specs.Pivots.{AreBasic, ArePivots, ArePivotsFrom, pivot_lines}
+use Rattle.search_port.specs.Pivots.{AreBasic, ArePivots, AreChained as AreChainedSpent}
 use Rattle.search_port.specs.declared.shown.Showing.{Showing}
 use Rattle.search_port.specs.declared.budget.Spent.{Spent}
 use Rattle.search_port.specs.declared.budget.Spent.TheVariants.{Learnt, Numbered, Pivot}
-use Rattle.search_port.proofs.Pivots.{bound_by, pivots_by}
+use Rattle.search_port.proofs.Pivots.{bound_by, chained_by}
 use Rattle.smt_laws.specs.Flat.{flat, FlatSaysTheSame}
 use Rattle.check_atoms.specs.Laws.{IsSameOfNoInts}
 use Rattle.first_clauses.specs.PartClausesFirst.{ForcesParts, IsAsserted, IsForced, written_literal}
 use Rattle.first_clauses.specs.CheckClausesFirst.{reading_of, IsFirst}
 use Rattle.cdcl_core.specs.Search.{literal_lists}
-use Rattle.cdcl_core.specs.Turns.{AreNew, IsShown, IsOfTheory, Searches}
+use Rattle.cdcl_core.specs.Turns.{AreNew, ChainsPivots, IsShown, IsOfTheory, Searches}
 use Rattle.worker.specs.Shown.{HasStackAtoms, unit_of, IsOfNumbers, ShowsUnits}
 use Rattle.search_port.proofs.Forcing.{Split, all_of, split}
 use Rattle.worker.proofs.Lists.{IsAfter, in_order, at_any, first_or_later, front_in, in_middle}
@@ -111,28 +115,27 @@ past_range flatly s t x seen trees frames h is =
       leaves = subst (λ (o : Option RangeSeen). IfSome o (LeavesRange s.trees s.frames t.variables.sums (IsCheckAtom s.trees s.frames x.branches))) is shown.seen;
     }
 
--- ---- pivots among written units
+-- ---- units with their atoms written out hang together as they do
 
-lines_both : (us vs : List Spent) → pivot_lines (us ++ vs) ≡ pivot_lines us ++ pivot_lines vs
-lines_both [] vs = refl
-lines_both (Learnt c ∷ us) vs = lines_both us vs
-lines_both (Numbered n ∷ us) vs = lines_both us vs
-lines_both (Pivot l ∷ us) vs = ap (λ (ls : List Line). l ∷ ls) (lines_both us vs)
+module _ (sums : List (List Summand)) (B : Bounding) (table : List Atom) (level : ℕ) where
+  chained_written : (is : ℕ → Bool) (here there : Option Grid) (us : List Spent) → AreChainedSpent sums B is here us there → AreChained sums B is here (map (unit_of table level) us)
+  chained_written is here there [] h = tt
+  chained_written is here there (Learnt c ∷ us) h = chained_written is None there us h
+  chained_written is here there (Numbered n ∷ us) h = chained_written is None there us h
+  chained_written is here there (Pivot l ∷ us) h = (h.0, h.1, chained_written (exchanged l is) (Some (left_by h.0)) there us h.2)
 
-basis_written : (table : List Atom) (level : ℕ) (us : List Spent) (is : ℕ → Bool) → basis_along is (pivot_lines us) ≡ basis_after is (map (unit_of table level) us)
-basis_written table level [] is = refl
-basis_written table level (Learnt c ∷ us) is = basis_written table level us is
-basis_written table level (Numbered n ∷ us) is = basis_written table level us is
-basis_written table level (Pivot l ∷ us) is = basis_written table level us (exchanged l is)
+  -- without a pivot among them nothing is asked
+  chained_free : (is : ℕ → Bool) (here : Option Grid) (us : List Spent) → All IsNoPivot us → AreChained sums B is here (map (unit_of table level) us)
+  chained_free is here [] free = tt
+  chained_free is here (Learnt c ∷ us) free = chained_free is None us (All-tail IsNoPivot (Learnt c) us free)
+  chained_free is here (Numbered n ∷ us) free = chained_free is None us (All-tail IsNoPivot (Numbered n) us free)
+  chained_free is here (Pivot l ∷ us) free = absurd (All-head IsNoPivot (Pivot l) us free)
 
--- the pivot after some
-pivot_at : (sums : List (List Summand)) (B : Bounding) (is : ℕ → Bool) (before after : List Line) (l : Line) → ArePivotsFrom sums B is (before ++ l ∷ after) → IsPivotIn sums B (basis_along is before) l
-pivot_at sums B is [] after l h = h.0
-pivot_at sums B is (m ∷ before) after l h = pivot_at sums B (exchanged m is) before after l h.1
-
-pivot_over : (Is Js : Atom → Type 0) → ((a : Atom) → Is a → Js a) → (sums : List (List Summand)) (is : ℕ → Bool) (l : Line) → IsPivotIn sums (IsBoundOf Is) is l → IsPivotIn sums (IsBoundOf Js) is l
-pivot_over Is Js more sums is l h =
-    subst (λ xs. IsPivotIn xs (IsBoundOf Js) is l) (append-nil sums) (pivots_by (IsBoundOf Is) (IsBoundOf Js) (bound_by Is Js more) sums [] (l ∷ []) is is (λ i lt. refl) (h, tt)).0
+-- over more atoms
+chained_over : (Is Js : Atom → Type 0) → ((a : Atom) → Is a → Js a) → (sums : List (List Summand)) (is : ℕ → Bool) (there : Option Grid) (us : List Spent)
+    → AreChainedSpent sums (IsBoundOf Is) is None us there → AreChainedSpent sums (IsBoundOf Js) is None us there
+chained_over Is Js more sums is there us h =
+    subst (λ xs. AreChainedSpent xs (IsBoundOf Js) is None us there) (append-nil sums) (chained_by (IsBoundOf Is) (IsBoundOf Js) (bound_by Is Js more) sums [] None there us is is (λ i lt. refl) h)
 
 -- ---- the first clauses by a longer table
 
@@ -210,8 +213,8 @@ has_number (Numbered n ∷ us) m h =
     number_is e = ap number_of e
 
 module _ (w : ℕ) (forgets : Bool) (of : IsOfWorker w forgets) (laws : Laws) (s : Stack) (stored new : Stored) (lawful : IsLawful s) (limit : ℤ) (t u : TheoryState) (b c : Spending) (first : IsFirst s t.reading.table stored)
-    (all : HasStackAtoms s t.reading.table) (begins : t.reading ≡ reading_of s t.reading.table) (basis : AreBasic (first_basis t.variables.sums) t.variables) (budget : IsBudget limit forgets b)
-    (run : Searches forgets stored new t u b c) where
+    (all : HasStackAtoms s t.reading.table) (begins : t.reading ≡ reading_of s t.reading.table) (unpivoted : ArePivots t []) (budget : IsBudget limit forgets b)
+    (run : Searches forgets stored new t u b c) (chains : ChainsPivots t u b c) where
   abbrev more : List Atom
   more = run.turns.grown.more
 
@@ -230,9 +233,14 @@ module _ (w : ℕ) (forgets : Bool) (of : IsOfWorker w forgets) (laws : Laws) (s
   of_stack : (a : Atom) → Contains (stack_atoms s.trees s.frames) a → ((m : ℕ) × (m < length t.reading.table) × (atom_at u.reading.table m ≡ a)) ⊎ IsSameOfNoInts s a
   of_stack a h = elim (all a h) [ inl k ↦ inl (first_number a k) | inr b ↦ inr b ]
 
-  -- where there is a limit, the pivots go on from the basis before any
-  are_pivots : is_unlimited limit ≡ false → ArePivots u c.units
-  are_pivots counted = run.turns.pivots (budget.keeps ∙ ap not counted) (subst (λ (us : List Spent). ArePivots t us) (sym budget.units) (record { lines = tt; basis = basis }))
+  -- where there is a limit, the pivots go on from what there was before any, and without one there are none
+  abbrev IsPivotList : Bool → Type 0
+  IsPivotList true = All IsNoPivot c.units
+  IsPivotList false = ArePivots u c.units
+
+  are_pivots : (v : Bool) → is_unlimited limit ≡ v → IsPivotList v
+  are_pivots true e = run.turns.spends.no_pivots (budget.keeps ∙ ap not e) (subst (λ (us : List Spent). All IsNoPivot us) (sym budget.units) (All-nil IsNoPivot))
+  are_pivots false e = chains (budget.counts ∙ ap (λ v. not v || forgets) e) (budget.keeps ∙ ap not e) (subst (λ (us : List Spent). ArePivots t us) (sym budget.units) unpivoted)
 
   module _ (x : Showing) (shown : IsShowing (by_levels s u) x) where
     last : IsLast s x.branches stored u.reading
@@ -249,7 +257,7 @@ module _ (w : ℕ) (forgets : Bool) (of : IsOfWorker w forgets) (laws : Laws) (s
     }
 
     one_unit : (before after : List Spent) (y : Spent) → c.units ≡ before ++ y ∷ after
-        → IsUnit s.trees s.frames u.variables.sums x.branches limit w (map (unit_of u.reading.table (depth s.frames)) before) (unit_of u.reading.table (depth s.frames) y)
+        → IsUnit s.trees s.frames x.branches limit w (map (unit_of u.reading.table (depth s.frames)) before) (unit_of u.reading.table (depth s.frames) y)
     one_unit before after (Numbered n) e =
         let here : Contains c.units (Numbered n) = subst (λ us. Contains us (Numbered n)) (sym e) (in_middle before after (Numbered n)) in
         let order : IsAfter (length t.reading.table) n (numbers before) =
@@ -266,22 +274,23 @@ module _ (w : ℕ) (forgets : Bool) (of : IsOfWorker w forgets) (laws : Laws) (s
         (new_front forgets stored.clauses [] before (Learnt d ∷ after) news) (new_at forgets stored.clauses [] before after (Learnt d) news)
     one_unit before after (Pivot l) e =
         let here : Contains c.units (Pivot l) = subst (λ us. Contains us (Pivot l)) (sym e) (in_middle before after (Pivot l)) in
-        let counted : is_unlimited limit ≡ false = limited IsNoPivot b.keeps_lines (is_unlimited limit) b.units c.units (Pivot l) budget.keeps budget.units run.turns.spends.no_pivots here (λ h. h) in
-        let sums = u.variables.sums in
-        let lines : ArePivotsFrom sums (IsBoundOf (Contains u.reading.table)) (first_basis sums) (pivot_lines before ++ l ∷ pivot_lines after) =
-        subst (λ ls. ArePivotsFrom sums (IsBoundOf (Contains u.reading.table)) (first_basis sums) ls) (ap pivot_lines e ∙ lines_both before (Pivot l ∷ after)) (are_pivots counted).lines in
-        record {
-          costs = counted;
-          pivots = subst (λ is. IsPivotIn sums (IsBoundOf (IsCheckAtom s.trees s.frames x.branches)) is l) (basis_written u.reading.table (depth s.frames) before (first_basis sums))
-              (pivot_over (Contains u.reading.table) (IsCheckAtom s.trees s.frames x.branches) (λ a k. All-contains (IsCheckAtom s.trees s.frames x.branches) u.reading.table a shown.atoms k) sums
-              (basis_along (first_basis sums) (pivot_lines before)) l (pivot_at sums (IsBoundOf (Contains u.reading.table)) (first_basis sums) (pivot_lines before) (pivot_lines after) l lines));
-        }
+        limited IsNoPivot b.keeps_lines (is_unlimited limit) b.units c.units (Pivot l) budget.keeps budget.units run.turns.spends.no_pivots here (λ h. h)
 
-    are_units : AreUnits s.trees s.frames u.variables.sums x.branches limit w (map (unit_of u.reading.table (depth s.frames)) c.units)
+    are_units : AreUnits s.trees s.frames x.branches limit w (map (unit_of u.reading.table (depth s.frames)) c.units)
     are_units before after y e =
         let r : Split (unit_of u.reading.table (depth s.frames)) c.units before after y = split (unit_of u.reading.table (depth s.frames)) c.units before after y e in
-        subst (λ (us : List ShownUnit). IsUnit s.trees s.frames u.variables.sums x.branches limit w us y) r.front_is
-        (subst (IsUnit s.trees s.frames u.variables.sums x.branches limit w (map (unit_of u.reading.table (depth s.frames)) r.front)) r.one_is (one_unit r.front r.back r.one r.is))
+        subst (λ (us : List ShownUnit). IsUnit s.trees s.frames x.branches limit w us y) r.front_is
+        (subst (IsUnit s.trees s.frames x.branches limit w (map (unit_of u.reading.table (depth s.frames)) r.front)) r.one_is (one_unit r.front r.back r.one r.is))
+
+    are_chained : (v : Bool) → is_unlimited limit ≡ v
+        → AreChained u.variables.sums (IsBoundOf (IsCheckAtom s.trees s.frames x.branches)) (first_basis u.variables.sums) None (map (unit_of u.reading.table (depth s.frames)) c.units)
+    are_chained true e = chained_free u.variables.sums _ u.reading.table (depth s.frames) (first_basis u.variables.sums) None c.units (are_pivots true e)
+    are_chained false e =
+        let sums = u.variables.sums in
+        let pivots : ArePivots u c.units = are_pivots false e in
+        chained_written sums _ u.reading.table (depth s.frames) (first_basis sums) None (Some pivots.grid) c.units
+        (chained_over (Contains u.reading.table) (IsCheckAtom s.trees s.frames x.branches) (λ a k. All-contains (IsCheckAtom s.trees s.frames x.branches) u.reading.table a shown.atoms k) sums (first_basis sums)
+        (Some pivots.grid) c.units pivots.lines)
 
   pub shows_units : length c.units ≡ c.limit → ShowsUnits s limit w u c.units
   shows_units spent x h =
@@ -292,4 +301,5 @@ module _ (w : ℕ) (forgets : Bool) (of : IsOfWorker w forgets) (laws : Laws) (s
         known = shown.sums;
         are_branches = shown.branches;
         units = are_units x shown;
+        chained = are_chained x shown (is_unlimited limit) refl;
       }

@@ -1,8 +1,7 @@
 //! The search.
 ghost use Rattle.std.specs.Prelude.{◌≡◌, [], false};
 ghost use Rattle.smt_meaning.specs.Kinds.{has_no_integers};
-ghost use Rattle.fraction128.specs.Lines.{first_basis};
-ghost use Rattle.search_port.specs.Pivots.{AreBasic};
+ghost use Rattle.search_port.specs.Pivots.{ArePivots};
 ghost use Rattle.cdcl_core.specs.Search.{AreAgreed};
 ghost use Rattle.smt_laws.specs.Flat.{flat};
 ghost use Rattle.first_clauses.specs.CheckClausesFirst.{reading_of, IsFirst};
@@ -56,7 +55,7 @@ pub(crate) fn search<T: Shown, H: Hook<T>>(
     requires first { IsFirst stack.now (T.state theory).reading.table store }
     requires reading { (T.state theory).reading ≡ reading_of stack.now (T.state theory).reading.table }
     requires untold { (T.state theory).log ≡ [] }
-    requires basis { AreBasic (first_basis (T.state theory).variables.sums) (T.state theory).variables }
+    requires pivots { ArePivots (T.state theory) [] }
     requires agreed { AreAgreed T.agrees (T.state theory).reading store.clauses }
     requires all { HasStackAtoms stack.now (T.state theory).reading.table }
     ensures found { IsFound stack.now settings.now.units worker (H.stopped hook.new) result }

@@ -24,8 +24,9 @@
 //! forces (of clauses learnt by workers but worker 0 those of at most 8 literals); or an atom of the
 //! check that is none of the stack's and wasn't numbered before.
 //!
-//! Under a limit a pivot is one too, by Bland's rule in a row over atoms of the check, of another
-//! basic variable than that before it.
+//! Under a limit a pivot is one too, by Bland's rule in a row over atoms of the check, from the basis
+//! that those before it left; and where no other unit is between, from the grid that the one before
+//! it left, with bounds and variables that were taken in since.
 //!
 //! `out_of_memory`, `out_of_range`, `refused`: the reports of a worker that didn't come to search.
 //! Where its atoms are refused the report shows the part or the pair of parts whose folding left

@@ -2,8 +2,7 @@
 ghost use Rattle.std.specs.Prelude.{◌≡◌, ◌+◌, [], All, IfSome};
 ghost use Rattle.smt_meaning.specs.Stack.{depth};
 ghost use Rattle.smt_meaning.specs.Kinds.{has_no_integers};
-ghost use Rattle.fraction128.specs.Lines.{first_basis};
-ghost use Rattle.search_port.specs.Pivots.{AreBasic};
+ghost use Rattle.search_port.specs.Pivots.{ArePivots};
 ghost use Rattle.search_port.specs.State.{IsGrown};
 ghost use Rattle.cdcl_core.specs.Search.{AreAgreed, IsAddable};
 ghost use Rattle.cdcl_core.specs.Turns.{GivenBy, IsGiven};
@@ -109,7 +108,7 @@ pub fn run<S: Shelf, T: Shown, G: Gate>(
     requires first { IsFirst stack.now (T.state theory).reading.table store }
     requires reading { (T.state theory).reading ≡ reading_of stack.now (T.state theory).reading.table }
     requires untold { (T.state theory).log ≡ [] }
-    requires basis { AreBasic (first_basis (T.state theory).variables.sums) (T.state theory).variables }
+    requires pivots { ArePivots (T.state theory) [] }
     requires agreed { AreAgreed T.agrees (T.state theory).reading store.clauses }
     requires all { HasStackAtoms stack.now (T.state theory).reading.table }
     ensures same { IsSamePass pass result.0 }

@@ -6,7 +6,8 @@ use Rattle.search_port.specs.declared.budget.Cause.{Cause}
 use Rattle.smt_laws.specs.Flat.{flat}
 use Rattle.first_clauses.specs.CheckClausesFirst.{reading_of}
 use Rattle.cdcl_core.specs.Search.{IsAddable}
-use Rattle.cdcl_core.specs.Turns.{EndsSearch}
+use Rattle.cdcl_core.specs.declared.solve.Outcome.TheVariants.{Ended as OutcomeEnded}
+use Rattle.cdcl_core.specs.Turns.{EndsSearch, PivotsAtEnd}
 use Rattle.worker.proofs.Deciding.{fresh, heard, heard_from, tables_for, holds, fit}
 use Rattle.worker.proofs.Showing.{budget_of, frames_stay, of_numbers, shows_units, trees_stay}
 use Rattle.worker.proofs.Units.{of_worker}
@@ -69,8 +70,9 @@ all_spent-requires-clause-spent g c =
     let after : TheoryState = g.T.Theory.state c.solve.new.theory in
     shows_units c.args.worker _ (of_worker c.args.worker _ refl)
     (record { as_written = c.follows_as_written.ensures; by_numbers = c.forces_by_numbers.ensures; in_turn = c.forces_in_turn.ensures; flatly = c.flat_says_the_same.ensures }) s c.args.store
-    c.solve.new.store c.laws.ensures c.args.settings.now.units (g.T.Theory.state c.args.theory) after c.new-budget.result c.solve.new.budget c.requires.first c.requires.all c.requires.reading c.requires.basis
+    c.solve.new.store c.laws.ensures c.args.settings.now.units (g.T.Theory.state c.args.theory) after c.new-budget.result c.solve.new.budget c.requires.first c.requires.all c.requires.reading c.requires.pivots
     (budget_of c.args.settings.now.units c.new-budget.result c.units_within-limit.result _ _ _ c.new-budget.ensures c.units_within-limit.ensures c.has_limit-limited.ensures) c.in-Ended-Units.ensures.run
+    (subst (λ (e : Cause). PivotsAtEnd (g.T.Theory.state c.args.theory) after c.new-budget.result c.solve.new.budget (OutcomeEnded e)) c.in-Ended-Units.field-0-is c.in-Ended-Units.ensures.pivots)
     (subst (λ (e : Cause). EndsSearch after.reading c.solve.new.budget (g.H.Hook.stopped c.solve.new.hook) e) c.in-Ended-Units.field-0-is c.in-Ended-Units.ensures.outcome)
 
 pub stopped-requires-clause-trees : goal.stopped-requires-clause-trees
