@@ -17,7 +17,7 @@ use Rattle.tableau.specs.Table.{Table}
 use Rattle.simplex_steps.specs.State.{column_in, no_column, values, grid_of}
 use Rattle.simplex.specs.State.{KeepsValues, new_column}
 use Rattle.sum_bounds.specs.Bounds as Bounds
-use Rattle.sum_bounds.specs.Bounds.{Told, with_leaf, with_sum, told_side, told_number, bound_on, IsToldOn}
+use Rattle.sum_bounds.specs.Bounds.{Told, with_leaf, with_sum, bound_on, IsToldOn}
 use Rattle.sum_bounds.specs.Origins.{IsOfTold}
 use Rattle.bound_log.specs.declared.said.Said.{Said}
 use Rattle.bound_log.specs.declared.said.Said.TheVariants.{Nothing}

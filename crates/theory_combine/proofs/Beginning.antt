@@ -1,5 +1,5 @@
 -- The parts of a stack and their atoms, before anything is told.
-use Rattle.std.proofs.Common.{◌∙◌, ℕ, ◌+◌, ◌<◌, ◌^◌, Bool, List, ◌∷◌, [], length, get_or, All, Contains, ◌≢◌, sym, ap, inl, refl}
+use Rattle.std.proofs.Common.{◌∙◌, ℕ, ◌+◌, ◌<◌, ◌^◌, Bool, List, ◌∷◌, [], length, get_or, All, Contains, ◌≢◌, ap, inl, refl}
 use Rattle.std.specs.Prelude.{AllPairs, slice_index_or, None}
 use Rattle.std.proofs.lemmas.List.Elements.{All-head, All-nil, All-tail, All-weaker, Contains-get_or}
 use Rattle.fraction128.specs.declared.Summand.{Summand}
@@ -14,7 +14,6 @@ use Rattle.smt_meaning.specs.Term.{Tree, node}
 use Rattle.smt_meaning.specs.Parts.{IsPart}
 use Rattle.smt_meaning.specs.Stack.{signature_of, assertions_of}
 use Rattle.smt_meaning.specs.StackCommand.{Stack}
-use Rattle.smt_meaning.specs.TreeShape.{is_linear}
 use Rattle.smt_laws.specs.SortLaws.{SymbolsAreDeclared}
 use Rattle.scope_stack.specs.Facts.{AreSorts}
 use Rattle.scope_stack.specs.Shown.{IsLawful}
