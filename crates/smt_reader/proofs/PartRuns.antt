@@ -45,7 +45,7 @@ module _ {grown : List ℕ → List ℕ → List ℕ} (growth : Growth grown) wh
             ∙ q.rest (start ++ take first bytes) (grown content (take first bytes)) after
             ∙ ap (λ s. goes_on later s (grown (grown content (take first bytes)) (take more (drop first bytes))) (drop more (drop first bytes) ++ after)) (taken start)
             ∙ ap (λ c. goes_on later (start ++ take (first + more) bytes) c (drop more (drop first bytes) ++ after))
-                (growth.by_more content (take first bytes) (take more (drop first bytes)) ∙ ap (grown content) (sym (take-add first more bytes)))
+            (growth.by_more content (take first bytes) (take more (drop first bytes)) ∙ ap (grown content) (sym (take-add first more bytes)))
             ∙ ap (λ xs. goes_on later (start ++ take (first + more) bytes) (grown content (take (first + more) bytes)) (xs ++ after)) (drop-drop more first bytes);
       }
 
