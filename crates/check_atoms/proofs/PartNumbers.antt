@@ -19,7 +19,6 @@ use Rattle.check_atoms.specs.Parts.{IsMarked}
 use Rattle.bound_clauses.specs.declared.orders.Order.{Order}
 use Rattle.bound_clauses.specs.Orders.{order_atoms, bound_atom}
 use Rattle.bound_clauses.specs.Laws.{orders}
-use Rattle.check_atoms.specs.declared.part.PartAtom.{PartAtom}
 use Rattle.check_atoms.specs.declared.part.PartAtom.TheVariants.{Bound}
 use Rattle.check_atoms.specs.PartAtoms.{atom_of, truth_by_sort, of_rows, compared, compared_by_head, sort_of}
 use Rattle.check_atoms.specs.AssertedDistinct.{IsAssertedDistinct}

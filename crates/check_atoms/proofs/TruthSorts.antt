@@ -1,5 +1,5 @@
 -- Each numbered truth is that of a part that is a Bool.
-use Rattle.std.proofs.Common.{◌≡◌, inl, inr, ℕ, Bool, List, [], ◌∷◌, Some, map, get_or, All, Contains, subst, sym, ◌∙◌, refl}
+use Rattle.std.proofs.Common.{◌≡◌, inl, inr, ℕ, Bool, List, [], ◌∷◌, Some, map, get_or, All, subst, sym, ◌∙◌, refl}
 use Rattle.std.specs.Prelude.{ℤ}
 use Rattle.std.proofs.lemmas.List.Elements.{All-map, All-head, All-contains}
 use Rattle.smt_meaning.specs.declared.values.Sort.TheVariants.{Bool as Truths}

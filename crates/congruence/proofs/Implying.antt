@@ -2,15 +2,13 @@
 use Rattle.std.proofs.Common.{◌≡◌, ℕ, zero, suc, ◌+◌, ◌<◌, ◌⊎◌, Bool, true, false, not, List, [], ◌∷◌, map, length, All, Contains, refl, sym, ap, ◌∙◌, subst, inl, inr, arith}
 use Rattle.std.proofs.lemmas.List.Elements.{All-weaker, All-contains, All-contains_itself, Contains-append_cases}
 use Rattle.literals.specs.Signed.{Signed, opposite, literal_true, some_true}
-use Rattle.smt_meaning.specs.declared.clauses.Atom.{Atom}
 use Rattle.smt_meaning.specs.declared.clauses.Atom.TheVariants.{Truth as TruthAtom}
 use Rattle.smt_meaning.specs.Declaration.{Declaration}
 use Rattle.smt_meaning.specs.Term.{Tree, Interpretation}
 use Rattle.smt_meaning.specs.Interpretation.{Interprets}
 use Rattle.smt_meaning.specs.Stack.{Frame, signature_of}
-use Rattle.search_port.specs.State.{TheoryState, atom_at, IsFalseIn, AllFalseIn, IsOpenIn, HasOneOpen, IsPressing}
+use Rattle.search_port.specs.State.{TheoryState, atom_at, IsFalseIn, AllFalseIn, IsOpenIn}
 use Rattle.search_port.specs.Valid.{IsOf}
-use Rattle.search_port.specs.Calls.{IsLemma}
 use Rattle.point_closure.specs.declared.step.Step.{Step}
 use Rattle.point_closure.specs.declared.step.Step.TheVariants.{Merge, Differ}
 use Rattle.point_closure.specs.Explained.{merged}

@@ -1,5 +1,5 @@
 -- Clauses that give a literal from what was told.
-use Rattle.std.specs.Prelude.{◌≡◌, ℕ, ◌+◌, ◌<◌, List, length, All, Contains}
+use Rattle.std.specs.Prelude.{◌≡◌, ◌+◌, ◌<◌, List, length, All, Contains}
 use Rattle.literals.specs.Signed.{Signed, opposite}
 use Rattle.smt_meaning.specs.Declaration.{Declaration}
 use Rattle.search_port.specs.State.{TheoryState, IsOpenIn, IsPressing}

@@ -13,7 +13,7 @@ use Rattle.smt_meaning.specs.Term.{Tree, Trees, node, none, more, tree_at, numbe
 use Rattle.smt_meaning.specs.Nodes.{pick}
 use Rattle.term_store.specs.Terms.{tree_with}
 use Rattle.smt_meaning.specs.TreeShape.{place_of, is_constant, are_constant, at_most_one_varies}
-use Rattle.smt_meaning.specs.Linear.{Form, unless_zero, placed, with_term, sums_added, each_times, sum_times, form_times, form_plus, form_minus, form_product, fold_forms, folded, leaf_form, linear_form, linear_forms}
+use Rattle.smt_meaning.specs.Linear.{Form, unless_zero, placed, with_term, sums_added, each_times, sum_times, form_times, form_plus, form_minus, form_product, fold_forms, leaf_form, linear_form, linear_forms}
 use Rattle.smt_meaning.specs.Ranges.{sum_at, form_at}
 use Rattle.fraction128.proofs.Ring.{sum-times, times-sum, times_assoc}
 use Rattle.smt_laws.proofs.SameTree.{and_left, and_right}

@@ -1,27 +1,18 @@
 -- What is given exactly can be given, and tables that are made of it give exact values.
-use Rattle.std.proofs.Common.{◌≡◌, ℕ, ◌<◌, ◌≤◌, Bool, true, false, List, [], ◌∷◌, length, map, All, refl, sym, ap, subst, ◌∙◌, inl, inr, arith}
-use Rattle.std.specs.Prelude.{◌⊎◌, slice_index_or, if◌then◌else◌}
-use Rattle.std.proofs.lemmas.Bool.{cases_lt}
-use Rattle.std.proofs.lemmas.List.{get_or_past}
-use Rattle.std.proofs.lemmas.List.Elements.{All-nil, All-cons, All-head, All-tail}
+use Rattle.std.proofs.Common.{◌≡◌, ℕ, Bool, true, List, length, ap, ◌∙◌}
+use Rattle.std.specs.Prelude.{if◌then◌else◌}
 use Rattle.smt_meaning.specs.declared.values.Value.{Value}
 use Rattle.smt_meaning.specs.declared.values.Table.{Table}
 use Rattle.smt_meaning.specs.declared.values.Sort.{Sort}
-use Rattle.smt_meaning.specs.declared.values.Sort.TheVariants.{Bool as Truths}
-use Rattle.smt_meaning.specs.declared.terms.Head.{Head}
 use Rattle.smt_meaning.specs.declared.terms.Head.TheVariants.{Symbol}
 use Rattle.smt_meaning.specs.Declaration.{Declaration}
-use Rattle.smt_meaning.specs.Term.{Tree, Trees, node, tree_at}
+use Rattle.smt_meaning.specs.Term.{Tree, node, tree_at}
 use Rattle.smt_meaning.specs.Parts.{AreInOrder}
-use Rattle.smt_meaning.specs.Signature.{tree_sort}
 use Rattle.smt_meaning.specs.CheckAtoms.{is_leaf, is_leaf_head}
-use Rattle.term_store.specs.Terms.{AreDifferent}
 use Rattle.model_build.specs.declared.given.Given.{Given}
-use Rattle.model_build.specs.declared.given.Given.TheVariants.{Unmarked, InRange, PastRange}
-use Rattle.model_build.specs.Given.{given_at, is_marked, head_of, arguments_of, givens}
-use Rattle.model_build.specs.Building.{is_given_of, IsGivenOf, AreGiven, AreValues, GiveValues}
-use Rattle.model_build.proofs.Reading.{givens-pick}
-use Rattle.check_atoms.specs.Parts.{IsMarked}
+use Rattle.model_build.specs.declared.given.Given.TheVariants.{Unmarked}
+use Rattle.model_build.specs.Given.{head_of}
+use Rattle.model_build.specs.Building.{AreGiven, AreValues, GiveValues}
 use Rattle.scope_stack.specs.Facts.{AreSorts}
 use Rattle.model_build.specs.Parts.{AreSortedParts}
 use Rattle.model_build.proofs.Placing.{AreGivenAt, given_so, marked, within}

@@ -1,6 +1,6 @@
 -- The parts of a stack have their sorts, their arguments are parts, and those that are linear can be read.
-use Rattle.std.proofs.Common.{◌≡◌, inl, inr, ℕ, ◌<◌, Bool, true, List, [], ◌∷◌, map, length, All, Contains, Some, subst, sym, ap, ◌∙◌, refl, arith}
-use Rattle.std.specs.Prelude.{Option, IsTrue}
+use Rattle.std.proofs.Common.{◌≡◌, inl, inr, ℕ, ◌<◌, Bool, List, [], ◌∷◌, map, length, All, Contains, Some, subst, sym, ap, ◌∙◌, refl, arith}
+use Rattle.std.specs.Prelude.{Option}
 use Rattle.std.proofs.lemmas.List.Elements.{All-nil, All-cons, All-head, All-weaker, All-contains}
 use Rattle.smt_meaning.specs.declared.values.Sort.{Sort}
 use Rattle.smt_meaning.specs.declared.values.Sort.TheVariants.{Bool as Truths}
@@ -9,7 +9,6 @@ use Rattle.smt_meaning.specs.declared.clauses.Atom.{Atom}
 use Rattle.smt_meaning.specs.declared.clauses.Atom.TheVariants.{Truth as TruthAtom}
 use Rattle.smt_meaning.specs.Declaration.{Declaration}
 use Rattle.smt_meaning.specs.Term.{Tree, Trees, node, none, more, tree_at}
-use Rattle.smt_meaning.specs.TreeShape.{is_linear, is_among}
 use Rattle.smt_meaning.specs.Nodes.{pick}
 use Rattle.smt_meaning.specs.Parts.{IsPart, IsPartOfOne, IsOneOf}
 use Rattle.smt_meaning.specs.Signature.{tree_sort}
@@ -19,7 +18,6 @@ use Rattle.term_store.specs.Terms.{tree_with}
 use Rattle.scope_stack.specs.Facts.{AreSorts}
 use Rattle.scope_stack.specs.Shown.{IsLawful}
 use Rattle.linear_forms.specs.Table.{Known, AreForms, IsLinked}
-use Rattle.bound_clauses.specs.Laws.{IsReadable}
 use Rattle.check_atoms.specs.Parts.{IsMarked}
 use Rattle.check_atoms.specs.Marks.{AreStackParts}
 use Rattle.check_atoms.proofs.Sorting.{HasSort as HasSomeSort, part_has_sort}

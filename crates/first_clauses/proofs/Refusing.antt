@@ -1,5 +1,5 @@
 -- Where the clauses of a part can't be put though its atoms have numbers, numbering its atoms would be refused.
-use Rattle.std.proofs.Common.{◌≡◌, ◌⊎◌, inl, inr, ℕ, Bool, true, false, ◌&&◌, List, [], ◌∷◌, ◌++◌, length, map, All, Contains, refl, sym, ap, subst, ◌∙◌}
+use Rattle.std.proofs.Common.{◌≡◌, ◌⊎◌, inl, inr, ℕ, Bool, true, false, List, [], ◌∷◌, ◌++◌, length, map, All, Contains, refl, sym, subst}
 use Rattle.std.specs.Prelude.{flat_map, IsTrue, Option, Some, nat_eq, if◌then◌else◌}
 use Rattle.std.proofs.lemmas.List.Elements.{All-cons, All-nil, All-head, All-tail, All-append, All-contains, All-weaker, Contains-append_right}
 use Rattle.smt_meaning.specs.declared.values.Sort.{Sort}
@@ -11,7 +11,7 @@ use Rattle.smt_meaning.specs.declared.clauses.Atom.{Atom}
 use Rattle.smt_meaning.specs.Declaration.{Declaration}
 use Rattle.smt_meaning.specs.Term.{Tree, node, tree_at}
 use Rattle.smt_meaning.specs.declared.clauses.Atom.TheVariants.{Truth}
-use Rattle.smt_meaning.specs.Signature.{tree_sort, all_of, sort_eq}
+use Rattle.smt_meaning.specs.Signature.{tree_sort}
 use Rattle.smt_meaning.specs.Stack.{signature_of}
 use Rattle.smt_meaning.specs.StackCommand.{Stack}
 use Rattle.smt_meaning.specs.Report.{IsPartOfStack}
@@ -36,8 +36,8 @@ use Rattle.check_atoms.specs.declared.refusal.Refusal.TheVariants.{Term as Refus
 use Rattle.check_atoms.specs.declared.part.PartAtom.{PartAtom}
 use Rattle.check_atoms.specs.declared.part.PartAtom.TheVariants.{Bound, Limit}
 use Rattle.check_atoms.specs.Numbering.{fits_by, RefusesBound, RefusesRows, RefusesDivision as RefusesDivisionAt}
-use Rattle.check_atoms.specs.OfStack.{IsNode, IsRefused as IsAtomRefused, AreCheckAtoms, RefusesPart, part_atoms}
-use Rattle.check_atoms.specs.PartAtoms.{by_sort as part_by_sort, alone_by_sort, pair as part_pair, alone, neighbours_from, first_with, each_two as each_two_atoms, of_equal, of_distinct, compared, compared_by_head, truth_by_sort, sort_of}
+use Rattle.check_atoms.specs.OfStack.{IsNode, IsRefused as IsAtomRefused, AreCheckAtoms, part_atoms}
+use Rattle.check_atoms.specs.PartAtoms.{by_sort as part_by_sort, alone_by_sort, pair as part_pair, alone, neighbours_from, first_with, each_two as each_two_atoms, of_equal, of_distinct, compared, truth_by_sort, sort_of}
 use Rattle.order_clauses.specs.declared.error.PartError.{PartError}
 use Rattle.order_clauses.specs.declared.error.PartError.TheVariants.{Missing, Term as PartTerm, Pair as PartPair, Limit as PartLimit, Memory as PartMemory}
 use Rattle.order_clauses.specs.declared.pairs.Pair.{Pair}

@@ -1,5 +1,5 @@
 -- Sums of products of whole numbers, without bound.
-use Rattle.std.specs.Prelude.{ℕ, ◌^◌, List, [], ◌∷◌, ℤ, pos, ◌+ℤ◌, ◌*ℤ◌}
+use Rattle.std.specs.Prelude.{List, [], ◌∷◌, ℤ, ◌+ℤ◌, ◌*ℤ◌}
 
 -- k and the products of the pairs
 abbrev pub dot_of : ℤ → List (ℤ × ℤ) → ℤ

@@ -5,3 +5,5 @@ pub mod Texts
 pub mod Questions
 pub mod Asking
 pub mod Above
+pub mod Answered
+pub mod Unders

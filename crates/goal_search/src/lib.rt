@@ -1,4 +1,12 @@
-//! What is searched for by one check after another (SMT-LIB 2.6, section 4.2.7).
+//! Checks of a stack, and what is searched for by one check after another (SMT-LIB 2.6, sections
+//! 4.2.5 and 4.2.7).
+//!
+//! `checked`: a check's reply, what the journal keeps with it and the mode that it gives, all of one
+//! verdict; in the mode unsat the levels have no model. The stack is as before.
+//!
+//! `check_under`: the same under a level that asserts terms, which is gone afterwards, or the terms'
+//! refusal. They join the stack's terms where the check is decided, and in the mode unsat the level
+//! may stand there again; else the stack is as before.
 //!
 //! `core`: of the assertions that may go, those that stay where each one that isn't needed is left
 //! out. With them alone there is no model, and each of them has its reason: a model of what is left
@@ -13,6 +21,8 @@
 //! assertions, and their terms join the list.
 #![tactic(auto)]
 
+mod answer;
+mod assuming;
 mod descent;
 mod minimum;
 mod point;
@@ -20,6 +30,8 @@ mod question;
 mod reduce;
 mod text;
 
+pub use answer::{Answer, checked, reason_of};
+pub use assuming::{Assumed, check_under, copied};
 pub use minimum::{Found, LeastValue, least};
 pub use reduce::core;
 pub use text::{Ask, asks_are_assumed, itself};

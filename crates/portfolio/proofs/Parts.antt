@@ -1,6 +1,6 @@
 -- What the parts of workers come to, one after the other, and at the end.
 use Rattle.std.proofs.Common.{◌≡◌, ℕ, ◌+◌, ◌<◌, ℤ, List, [], ◌∷◌, ◌++◌, map, length, get_or, sym, refl, ap, ◌∙◌, subst, arith, All}
-use Rattle.std.specs.Prelude.{true, Option, Some, None, IfSome, Contains, Result, Ok, Err, IfOk}
+use Rattle.std.specs.Prelude.{Option, Some, None, IfSome, Contains, Result, Ok, Err, IfOk}
 use Rattle.std.specs.List.{range_with_len}
 use Rattle.std.proofs.lemmas.List.{map-append}
 use Rattle.std.proofs.lemmas.List.Elements.{All-nil, All-push, Contains-append_left, Contains-push}
@@ -10,8 +10,7 @@ use Rattle.smt_meaning.specs.Interpretation.{meaning, AreTablesFor}
 use Rattle.smt_meaning.specs.Stack.{Frame, Satisfies, signature_of, assertions_of}
 use Rattle.smt_meaning.specs.Term.{Tree}
 use Rattle.smt_meaning.specs.StackCommand.{Stack}
-use Rattle.smt_meaning.specs.Kinds.{has_no_integers}
-use Rattle.smt_meaning.specs.Report.{Shows, AreReports, is_unlimited}
+use Rattle.smt_meaning.specs.Report.{Shows, AreReports}
 use Rattle.smt_meaning.specs.Model.{Fits, IsModel}
 use Rattle.race_model.specs.Shelves.{ShelfState}
 use Rattle.race_cell.specs.declared.action.Action.TheVariants.{Win}
@@ -75,7 +74,7 @@ module _ (s : Stack) (limit : ℤ) where
         ∙ (map-append report_worker t.reports.items (x ∷ [])
         ∙ (ap (λ l. l ++ x.worker ∷ []) (h.complete (sym e ∙ none) (sym w ∙ nobody))
         ∙ (ap (λ n. map claim_worker cs ++ n ∷ []) k.1.0 ∙ sym (map-append claim_worker cs (c ∷ [])))));
-    shown = subst (All (IsShown s limit)) (sym r) (All-push (IsShown s limit) t.reports.items x h.shown (subst (λ v. Shows s.trees s.frames limit v x.branches x.cause) (sym k.1.0) k.1.1));
+    shown = subst (All (IsShown s limit)) (sym r) (All-push (IsShown s limit) t.reports.items x h.shown k.1.1);
     memory = λ free unlimited. subst (All IsOfMemory) (sym r) (All-push IsOfMemory t.reports.items x (h.memory free unlimited) (m free unlimited));
   }
 
@@ -116,9 +115,9 @@ module _ (s : Stack) (limit : ℤ) where
 pub boxed_ends : BoxedStacksAreNotSpent → (n : ℕ) (ts : List Tree) (frames : List Frame) (limit : ℤ) (v : Verdict) → IsVerdict n ts frames limit v → BoxedIsNotSpent ts frames limit v
 boxed_ends law n ts frames limit (verdict.Sat i) h boxed few none = tt
 boxed_ends law n ts frames limit verdict.Unsat h boxed few none = tt
-boxed_ends law n ts frames limit (verdict.Unknown rs) h boxed few none = λ k r lt first us e.
+boxed_ends law n ts frames limit (verdict.Unknown rs) h boxed few none = λ k r lt us e.
     let s : Report = get_or rs k r in
-    law ts frames limit s.branches us few.atoms none boxed few.each few.few (subst (λ c. Shows ts frames limit 0 s.branches c) e (subst (λ w. Shows ts frames limit w s.branches s.cause) first (h.shown k r lt)))
+    law ts frames limit s.branches us few.atoms none boxed few.each few.few (subst (λ c. Shows ts frames limit s.branches c) e (h.shown k r lt))
 
 pub boxed_ends_ok : {E : Type 0} → BoxedStacksAreNotSpent → (n : ℕ) (ts : List Tree) (frames : List Frame) (limit : ℤ) (r : Result Verdict E) → IfOk r (IsVerdict n ts frames limit) → IfOk r (BoxedIsNotSpent ts frames limit)
 boxed_ends_ok law n ts frames limit (Ok v) h = boxed_ends law n ts frames limit v h

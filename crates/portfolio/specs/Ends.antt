@@ -35,15 +35,15 @@ pub record HasFewAtoms (ts : List Tree) (frames : List Frame) : Type 0 where
   pub each : (a : Atom) → IsFirstAtom ts frames a → Contains atoms a
   pub few : length atoms < 2 ^ 40
 
--- it isn't one of the first worker that shows spent units
-abbrev pub IsNotSpentByFirst : Report → Type 0
-IsNotSpentByFirst r = r.worker ≡ 0 → (us : List Spent) → r.cause ≡ Units us → ⊥
+-- it doesn't show spent units
+abbrev pub IsNotSpent : Report → Type 0
+IsNotSpent r = (us : List Spent) → r.cause ≡ Units us → ⊥
 
--- a model, or none, or the first worker shows a number that left the range, or want of memory
+-- a model, or none, or each worker shows a number that left the range, or want of memory
 abbrev pub EndsByRangeOrMemory : Verdict → Type 0
 EndsByRangeOrMemory (Sat i) = Unit {0}
 EndsByRangeOrMemory Unsat = Unit {0}
-EndsByRangeOrMemory (Unknown rs) = All IsNotSpentByFirst rs
+EndsByRangeOrMemory (Unknown rs) = All IsNotSpent rs
 
 -- so without a limit, where each Int leaf has a box and a check has few atoms
 abbrev pub BoxedIsNotSpent : List Tree → List Frame → ℤ → Verdict → Type 0

@@ -1,5 +1,5 @@
 -- What the parts of some workers come to together.
-use Rattle.std.specs.Prelude.{◌≡◌, ℕ, ◌+◌, ℤ, true, List, [], map, Option, Some, None, IfSome, All, Contains}
+use Rattle.std.specs.Prelude.{◌≡◌, ℕ, ◌+◌, ℤ, true, List, map, None, IfSome, All, Contains}
 use Rattle.smt_meaning.specs.declared.reports.Cause.TheVariants.{Memory}
 use Rattle.smt_meaning.specs.declared.reports.Report.{Report}
 use Rattle.smt_meaning.specs.Stack.{Frame, HasNoModel}
@@ -20,7 +20,7 @@ IsAnswer frames Unsat = HasNoModel frames
 
 -- the report shows why its worker found no answer
 abbrev pub IsShown : Stack → ℤ → Report → Type 0
-IsShown s limit r = Shows s.trees s.frames limit r.worker r.branches r.cause
+IsShown s limit r = Shows s.trees s.frames limit r.branches r.cause
 
 abbrev pub IsOfMemory : Report → Type 0
 IsOfMemory r = r.cause ≡ Memory

@@ -12,7 +12,7 @@
 //! memory is wanting.
 //!
 //! Without a limit of units and without an Int it is want of memory alone. Without a limit, where
-//! each Int leaf has a box and the atoms are fewer than 2^40, the first worker doesn't show spent units.
+//! each Int leaf has a box and the atoms are fewer than 2^40, no worker shows spent units.
 //!
 //! No worker is stopped by another one where there is no answer. Nothing races where nothing is
 //! declared or asserted.

@@ -26,11 +26,11 @@ one_more rs n r h e =
     map-append worker_of rs (r ∷ []) ∙ ap (λ xs. xs ++ r.worker ∷ []) h ∙ ap (λ x. range_with_len 0 n ++ x ∷ []) worker ∙ sym (range_more 0 n) ∙ ap (range_with_len 0) next
 
 -- each of these workers wants memory
-pub shown_more : (ts : List Tree) (frames : List Frame) (limit : ℤ) (rs : List Report) (r : Report) → All (λ (x : Report). Shows ts frames limit x.worker x.branches x.cause) rs → r.cause ≡ Memory
-    → All (λ (x : Report). Shows ts frames limit x.worker x.branches x.cause) (rs ++ r ∷ [])
+pub shown_more : (ts : List Tree) (frames : List Frame) (limit : ℤ) (rs : List Report) (r : Report) → All (λ (x : Report). Shows ts frames limit x.branches x.cause) rs → r.cause ≡ Memory
+    → All (λ (x : Report). Shows ts frames limit x.branches x.cause) (rs ++ r ∷ [])
 shown_more ts frames limit rs r h e =
-    All-append (λ (x : Report). Shows ts frames limit x.worker x.branches x.cause) rs (r ∷ []) h
-    (All-cons (λ (x : Report). Shows ts frames limit x.worker x.branches x.cause) r [] (subst (λ c. Shows ts frames limit r.worker r.branches c) (sym e) tt) (All-nil (λ (x : Report). Shows ts frames limit x.worker x.branches x.cause)))
+    All-append (λ (x : Report). Shows ts frames limit x.branches x.cause) rs (r ∷ []) h
+    (All-cons (λ (x : Report). Shows ts frames limit x.branches x.cause) r [] (subst (λ c. Shows ts frames limit r.branches c) (sym e) tt) (All-nil (λ (x : Report). Shows ts frames limit x.branches x.cause)))
 
-pub none_shown : (ts : List Tree) (frames : List Frame) (limit : ℤ) → All (λ (x : Report). Shows ts frames limit x.worker x.branches x.cause) []
-none_shown ts frames limit = All-nil (λ (x : Report). Shows ts frames limit x.worker x.branches x.cause)
+pub none_shown : (ts : List Tree) (frames : List Frame) (limit : ℤ) → All (λ (x : Report). Shows ts frames limit x.branches x.cause) []
+none_shown ts frames limit = All-nil (λ (x : Report). Shows ts frames limit x.branches x.cause)

@@ -13,7 +13,7 @@ use Rattle.smt_meaning.specs.Stack.{Frame, signature_of, assertions_of}
 use Rattle.proof_meaning.specs.Proof.{IsTerm, AreTerms}
 use Rattle.proof_meaning.specs.Rules.{Gives, Runs}
 use Rattle.proof_meaning.specs.Reading.{node_read, step_read, lists_of, listed, AreRead, IsWrongNode}
-use Rattle.proof_form.specs.Range.{LeavesRange}
+use Rattle.proof_terms.specs.Range.{LeavesRange}
 use Rattle.proof_form.specs.Found.{ComesTo, IsGoodInRange, IsFaultyAt, IsEndless, IsOutsideAt, IsFound}
 use Rattle.proof_form.specs.Alone.{FoundIsOne}
 use Rattle.proof_form.specs.declared.found.Found.{Found}

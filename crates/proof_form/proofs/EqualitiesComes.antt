@@ -8,14 +8,14 @@ use Rattle.smt_meaning.specs.Term.{Tree}
 use Rattle.proof_meaning.specs.Proof.{IsLiteral, negated, are_same}
 use Rattle.proof_meaning.specs.Rules.{IsByRule, differing}
 use Rattle.proof_read.specs.Written.{numbers_fit}
-use Rattle.proof_form.specs.Range.{RuleLeaves}
-use Rattle.proof_form.specs.Terms.{ProofTerms}
-use Rattle.proof_form.specs.Kept.{Kept, KeepsAll, AreCodesOf, GoOn}
-use Rattle.proof_form.specs.Comes.{Comes, Stays}
+use Rattle.proof_terms.specs.Range.{RuleLeaves}
+use Rattle.proof_terms.specs.Terms.{ProofTerms}
+use Rattle.proof_terms.specs.Kept.{Kept, KeepsAll, AreCodesOf, GoOn}
+use Rattle.proof_terms.specs.Comes.{Comes, Stays}
 use Rattle.proof_form.specs.EqualitiesKept.{IsKeptIfOver}
-use Rattle.proof_form.proofs.ClausesCodes.{kept_on}
-use Rattle.proof_form.specs.declared.verdict.Verdict.{Verdict}
-use Rattle.proof_form.specs.declared.verdict.Verdict.TheVariants.{Good, Wrong, Range}
+use Rattle.proof_terms.proofs.ClausesCodes.{kept_on}
+use Rattle.proof_terms.specs.declared.verdict.Verdict.{Verdict}
+use Rattle.proof_terms.specs.declared.verdict.Verdict.TheVariants.{Good, Wrong, Range}
 
 pub stays : (t : ProofTerms) (s : Step) → numbers_fit s ≡ true → (RuleLeaves t.declared t.nodes t.trees s → ⊥) → Stays t s
 stays t s e f (inl g) = false≢true (sym g ∙ e)

@@ -8,9 +8,9 @@ use Rattle.fraction128.specs.Number.{whole, is_positive, is_zero}
 use Rattle.proof_meaning.specs.declared.proof.Weighted.{Weighted}
 use Rattle.smt_laws.proofs.Both.{and_left, and_right, and_both}
 use Rattle.proof_form.specs.declared.farkas_entries.Entry.{Entry}
-use Rattle.proof_form.specs.declared.verdict.Verdict.{Verdict}
-use Rattle.proof_form.specs.declared.verdict.Verdict.TheVariants.{Good, Wrong}
-use Rattle.proof_form.specs.Range.{SumsFit, leaf_terms}
+use Rattle.proof_terms.specs.declared.verdict.Verdict.{Verdict}
+use Rattle.proof_terms.specs.declared.verdict.Verdict.TheVariants.{Good, Wrong}
+use Rattle.proof_terms.specs.Range.{SumsFit, leaf_terms}
 use Rattle.proof_form.specs.FarkasSums.{AreMultiples, ComeTo, parts_inside, constant_with, entries_with, leaves_inside, leaves_vanish, so_far, verdict_by}
 use Rattle.proof_form.proofs.FarkasForms.{HaveForms, have_forms}
 use Rattle.proof_form.proofs.FarkasRange.{products, at_leaf, at_leaf-filter, at_leaf-all, adds_products, adds_sums, adds_fit, PartsFit, parts_inside_fit, parts_fit_inside, sums_inside, added}

@@ -19,7 +19,7 @@ use Rattle.linear_forms.specs.Sums.{coefficient_of, IsSumWithin, IsSum, signed}
 use Rattle.linear_forms.proofs.FoldLemmas.{negated_in_range}
 use Rattle.linear_forms.proofs.SumLemmas.{sums_added_sum, sums_added_at, same_sums, sum_times_sum, plus_none, fits_in_range, in_range_fits}
 use Rattle.proof_read.specs.Written.{atom_fits, is_small, weights_fit}
-use Rattle.proof_form.specs.Range.{form_of_weighted, IsWeighted}
+use Rattle.proof_terms.specs.Range.{form_of_weighted, IsWeighted}
 use Rattle.proof_form.specs.FarkasSums.{IsMultiple, AreMultiples, signed_sum, atom_sum, atom_constant, weighted_sum}
 
 -- ---- signed sums

@@ -9,12 +9,12 @@ use Rattle.smt_meaning.specs.Term.{Tree}
 use Rattle.smt_meaning.specs.Linear.{Form}
 use Rattle.proof_meaning.specs.Proof.{IsLiteral}
 use Rattle.proof_meaning.specs.Rules.{add_times, total, AreScaled, IsFarkas}
-use Rattle.proof_form.specs.declared.verdict.Verdict.TheVariants.{Good, Wrong, Range}
-use Rattle.proof_form.specs.Comes.{Comes, Stays}
-use Rattle.proof_form.specs.Kept.{Kept, KeepsAll}
+use Rattle.proof_terms.specs.declared.verdict.Verdict.TheVariants.{Good, Wrong, Range}
+use Rattle.proof_terms.specs.Comes.{Comes, Stays}
+use Rattle.proof_terms.specs.Kept.{Kept, KeepsAll}
 use Rattle.proof_read.specs.Written.{numbers_fit}
-use Rattle.proof_form.specs.Range.{IsWeighted, form_of_weighted, FarkasLeaves}
-use Rattle.proof_form.specs.Terms.{ProofTerms}
+use Rattle.proof_terms.specs.Range.{IsWeighted, form_of_weighted, FarkasLeaves}
+use Rattle.proof_terms.specs.Terms.{ProofTerms}
 use Rattle.proof_form.specs.FarkasSums.{ComeTo, literals_of}
 
 -- ---- the rule speaks of weighted literals alone

@@ -9,7 +9,7 @@ use Rattle.smt_meaning.specs.declared.clauses.Summand.{Summand}
 use Rattle.proof_meaning.specs.declared.proof.Weighted.{Weighted}
 use Rattle.smt_meaning.specs.Linear.{summand}
 use Rattle.linear_forms.specs.Sums.{signed}
-use Rattle.proof_form.specs.Range.{multiplier}
+use Rattle.proof_terms.specs.Range.{multiplier}
 use Rattle.proof_form.specs.declared.farkas_entries.Entry.{Entry}
 use Rattle.proof_form.specs.FarkasSums.{signed_sum, multiple, multiple_inside, entry, entries_of, multiples_inside, leaves_inside, leaves_vanish, weighted_sum, constant_multiple, constant_with, parts_inside, entries_with, AfterPart, AfterParts}
 

@@ -5,7 +5,7 @@ use Rattle.fraction128.specs.Gcd.{gcd_of}
 use Rattle.fraction128.specs.Ratio.{IsFraction, Equals}
 use Rattle.fraction128.proofs.LowestTerms.{reduced-is}
 use Rattle.fraction128.proofs.RationalRing.{same_trans, lowest-unique}
-use Rattle.proof_form.specs.Range.{lowest}
+use Rattle.proof_terms.specs.Range.{lowest}
 
 pub lowest_is : (a b : ℕ) → a < 2 ^ 127 → 0 < b → b < 2 ^ 127 → Equals (lowest a b) (pos a) b × IsFraction (lowest a b)
 lowest_is a b a_in above b_in = reduced-is (pos a) (pos (a / gcd_of a b)) b (gcd_of a b) a_in above b_in refl refl

@@ -12,7 +12,7 @@ use Rattle.smt_meaning.specs.declared.clauses.Summand.{Summand}
 use Rattle.proof_meaning.specs.declared.proof.Weighted.{Weighted}
 use Rattle.smt_meaning.specs.Linear.{Form, sum_fits, form_fits}
 use Rattle.smt_laws.proofs.Both.{and_left, and_right, and_both}
-use Rattle.proof_form.specs.Range.{AddsFit, of_leaf, multiplier, leaf_multiples, constant_multiples, leaf_terms, constant_terms, FormFits}
+use Rattle.proof_terms.specs.Range.{AddsFit, of_leaf, multiplier, leaf_multiples, constant_multiples, leaf_terms, constant_terms, FormFits}
 use Rattle.proof_form.specs.declared.farkas_entries.Entry.{Entry}
 use Rattle.proof_form.specs.FarkasSums.{weighted_sum, weighted_constant, none_outside, sum_inside, multiple, multiple_inside, entries_of, multiples_inside, entries_with, constant_inside, constant_multiple, parts_inside}
 use Rattle.proof_form.proofs.FarkasForms.{weighted_form, HaveForms}

@@ -22,7 +22,7 @@ use Rattle.smt_meaning.specs.Linear.{Form, sums_added, sum_times, form_plus, for
 use Rattle.proof_meaning.specs.Rules.{add_times, total, AreScaled, IsFarkas}
 use Rattle.linear_forms.specs.Sums.{coefficient_of, IsSumWithin, IsSum}
 use Rattle.linear_forms.proofs.SumLemmas.{at_first, past_first, same_sums, sums_added_sum, sums_added_at, sum_times_sum, sum_times_at}
-use Rattle.proof_form.specs.Range.{lowest, multiplier, of_leaf, leaf_multiples, leaf_terms}
+use Rattle.proof_terms.specs.Range.{lowest, multiplier, of_leaf, leaf_multiples, leaf_terms}
 use Rattle.proof_form.specs.FarkasSums.{IsMultiple, multiple, constant_multiple, constant_with, literals_of}
 use Rattle.proof_form.proofs.FarkasNumbers.{lowest_is}
 use Rattle.proof_form.proofs.FarkasForms.{weighted_form, HaveForms}

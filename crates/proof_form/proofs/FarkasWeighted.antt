@@ -11,7 +11,7 @@ use Rattle.smt_meaning.specs.Linear.{Form}
 use Rattle.proof_meaning.specs.Proof.{IsLiteral}
 use Rattle.proof_meaning.specs.Rules.{false_bound}
 use Rattle.smt_laws.proofs.Both.{and_left, and_right}
-use Rattle.proof_form.specs.Range.{IsWeighted}
+use Rattle.proof_terms.specs.Range.{IsWeighted}
 use Rattle.proof_form.specs.FarkasSums.{is_bound, multiplies_bound}
 
 some_form : (b : Bool) (a : Atom) → is_bound a ≡ true → (f : Form) × (false_bound b a ≡ Some f)

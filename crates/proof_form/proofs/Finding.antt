@@ -11,8 +11,8 @@ use Rattle.smt_meaning.specs.Stack.{Frame, signature_of, assertions_of}
 use Rattle.proof_meaning.specs.Proof.{AreTerms}
 use Rattle.proof_meaning.specs.Rules.{Gives, Runs}
 use Rattle.proof_meaning.specs.Reading.{node_read, lists_of, listed, AreRead, IsWrongNode}
-use Rattle.proof_form.specs.Range.{LeavesRange}
-use Rattle.proof_form.specs.Terms.{ProofTerms}
+use Rattle.proof_terms.specs.Range.{LeavesRange}
+use Rattle.proof_terms.specs.Terms.{ProofTerms}
 use Rattle.proof_form.specs.Asserted.{asserted_at}
 use Rattle.proof_form.specs.Found.{IsFound, ComesTo}
 use Rattle.proof_form.specs.Whole.{AreAdded, EndsAt, NodesCome, HaveRun, EndsSo, StepsCome, faulty, outside, ended}

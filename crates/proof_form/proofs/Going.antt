@@ -18,15 +18,15 @@ use Rattle.proof_meaning.specs.Reading.{node_read, step_read, listed, AreRead}
 use Rattle.proof_read.specs.Written.{numbers_fit}
 use Rattle.proof_read.specs.Reads.{IsReadStep, IsNoNode, places_near}
 use Rattle.proof_read.specs.declared.read.ReadStep.TheVariants.{Wrong as ReadWrong, Large as ReadLarge}
-use Rattle.proof_form.specs.Terms.{ProofTerms, with_term}
-use Rattle.proof_form.specs.Kept.{Kept, KeepsAll, AreKept, IsKept}
+use Rattle.proof_terms.specs.Terms.{ProofTerms, with_term}
+use Rattle.proof_terms.specs.Kept.{Kept, KeepsAll, AreKept, IsKept}
 use Rattle.proof_form.specs.Asserted.{asserted_at}
-use Rattle.proof_form.specs.Comes.{Comes, Stays, GoesOn}
+use Rattle.proof_terms.specs.Comes.{Comes, Stays, GoesOn}
 use Rattle.proof_form.specs.Whole.{HasAdded, AreAdded, EndsAt, StepComes, AreRun, EndsSo, StepsCome, faulty, outside, ended}
 use Rattle.proof_form.specs.declared.found.Found.{Found}
 use Rattle.proof_form.specs.declared.found.Found.TheVariants.{No, Range as OutOfRange}
-use Rattle.proof_form.specs.declared.verdict.Verdict.{Verdict}
-use Rattle.proof_form.specs.declared.verdict.Verdict.TheVariants.{Good, Wrong, Range}
+use Rattle.proof_terms.specs.declared.verdict.Verdict.{Verdict}
+use Rattle.proof_terms.specs.declared.verdict.Verdict.TheVariants.{Good, Wrong, Range}
 use Rattle.proof_form.proofs.Reading.{read_push, far_is_no_term, far_leaves_not, far_gives_not}
 
 -- ---- terms

@@ -19,10 +19,10 @@ use Rattle.smt_meaning.specs.Division.{Row}
 use Rattle.proof_meaning.specs.Proof.{IsTerm, node_at, IsSummand, IsLiteral, IsAtom, literal, negated, is_true, are_same}
 use Rattle.proof_meaning.specs.Rules.{HasRows, of_quotient, of_last_quotient, of_remainder, of_divisibility, of_absolute, Gives, clause_at, sym_clause, trans_clause, truth_clause, both_clause, neither_clause}
 use Rattle.proof_meaning.specs.Reading.{AreRead}
-use Rattle.proof_form.specs.Range.{RuleLeaves, IsWeighted}
+use Rattle.proof_terms.specs.Range.{RuleLeaves, IsWeighted}
 use Rattle.proof_read.specs.Reads.{is_term_number, is_step_number, leaves_near, atom_near, literals_near, weights_near, numbers_near, places_near}
-use Rattle.proof_form.specs.Terms.{ProofTerms}
-use Rattle.proof_form.specs.Comes.{AreLiterals}
+use Rattle.proof_terms.specs.Terms.{ProofTerms}
+use Rattle.proof_terms.specs.Comes.{AreLiterals}
 
 pub read_push : {A : Type 0} (f : Sexp → Option A) (xs : List Sexp) (bs : List A) (x : Sexp) (a : A) → AreRead f xs bs → f x ≡ Some a → AreRead f (xs ++ x ∷ []) (bs ++ a ∷ [])
 read_push f [] [] x a h e = (e, tt)

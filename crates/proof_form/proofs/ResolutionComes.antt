@@ -9,13 +9,13 @@ use Rattle.proof_meaning.specs.declared.proof.Step.TheVariants.{Res}
 use Rattle.smt_meaning.specs.Term.{Tree}
 use Rattle.proof_meaning.specs.Proof.{IsLiteral, literal, negated}
 use Rattle.proof_meaning.specs.Rules.{IsResolution, IsEarlierResolution, clause_at}
-use Rattle.proof_form.specs.Terms.{ProofTerms}
-use Rattle.proof_form.specs.Kept.{Kept, KeepsAll, IsCodeOf, AreCodesOf, IsKept, AreApart, sign_code}
-use Rattle.proof_form.specs.Comes.{Comes, GoesOn, Stays, AreLiterals}
-use Rattle.proof_form.specs.ClausesMerged.{IsResolvent, IsResolved}
+use Rattle.proof_terms.specs.Terms.{ProofTerms}
+use Rattle.proof_terms.specs.Kept.{Kept, KeepsAll, IsCodeOf, AreCodesOf, IsKept, AreApart, sign_code}
+use Rattle.proof_terms.specs.Comes.{Comes, GoesOn, Stays, AreLiterals}
+use Rattle.proof_terms.specs.ClausesMerged.{IsResolvent, IsResolved}
 use Rattle.proof_form.specs.ResolutionCodes.{IsOpposite}
-use Rattle.proof_form.specs.declared.verdict.Verdict.TheVariants.{Good, Wrong}
-use Rattle.proof_form.proofs.ClausesCodes.{no_codes, codes_cons, kept_length, kept_at, kept_push}
+use Rattle.proof_terms.specs.declared.verdict.Verdict.TheVariants.{Good, Wrong}
+use Rattle.proof_terms.proofs.ClausesCodes.{no_codes, codes_cons, kept_length, kept_at, kept_push}
 
 -- ---- a code is of one literal
 

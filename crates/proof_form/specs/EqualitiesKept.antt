@@ -4,10 +4,10 @@ use Rattle.smt_meaning.specs.declared.clauses.Literal.{Literal}
 use Rattle.smt_meaning.specs.declared.nodes.Node.{Node}
 use Rattle.proof_meaning.specs.Proof.{IsLiteral, node_at, are_same}
 use Rattle.proof_meaning.specs.Rules.{differing}
-use Rattle.proof_form.specs.Terms.{ProofTerms}
-use Rattle.proof_form.specs.Kept.{Kept, KeepsAll}
-use Rattle.proof_form.specs.declared.verdict.Verdict.{Verdict}
-use Rattle.proof_form.specs.declared.verdict.Verdict.TheVariants.{Good, Wrong, Range}
+use Rattle.proof_terms.specs.Terms.{ProofTerms}
+use Rattle.proof_terms.specs.Kept.{Kept, KeepsAll}
+use Rattle.proof_terms.specs.declared.verdict.Verdict.{Verdict}
+use Rattle.proof_terms.specs.declared.verdict.Verdict.TheVariants.{Good, Wrong, Range}
 
 -- it is kept where its literals are over the terms, of the right sorts
 abbrev pub IsKeptIfOver : ProofTerms → Kept → Kept → List Literal → Verdict → Type 0

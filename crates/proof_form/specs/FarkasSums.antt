@@ -13,10 +13,10 @@ use Rattle.proof_meaning.specs.declared.proof.Weighted.{Weighted}
 use Rattle.smt_meaning.specs.Linear.{summand, sum_fits}
 use Rattle.proof_meaning.specs.Rules.{IsFarkas}
 use Rattle.linear_forms.specs.Sums.{IsSum, signed}
-use Rattle.proof_form.specs.Range.{multiplier, SumsFit}
+use Rattle.proof_terms.specs.Range.{multiplier, SumsFit}
 use Rattle.proof_form.specs.declared.farkas_entries.Entry.{Entry}
-use Rattle.proof_form.specs.declared.verdict.Verdict.{Verdict}
-use Rattle.proof_form.specs.declared.verdict.Verdict.TheVariants.{Good, Wrong, Range as LeavesTheRange}
+use Rattle.proof_terms.specs.declared.verdict.Verdict.{Verdict}
+use Rattle.proof_terms.specs.declared.verdict.Verdict.TheVariants.{Good, Wrong, Range as LeavesTheRange}
 
 -- ---- what is at most 0 where a literal on a bound is false
 

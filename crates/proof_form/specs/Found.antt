@@ -9,7 +9,7 @@ use Rattle.smt_meaning.specs.Stack.{Frame, signature_of, assertions_of}
 use Rattle.proof_meaning.specs.Proof.{AreTerms}
 use Rattle.proof_meaning.specs.Rules.{Gives, Runs}
 use Rattle.proof_meaning.specs.Reading.{node_read, step_read, lists_of, listed, AreRead, IsWrongNode}
-use Rattle.proof_form.specs.Range.{LeavesRange}
+use Rattle.proof_terms.specs.Range.{LeavesRange}
 use Rattle.proof_form.specs.declared.found.Found.{Found}
 use Rattle.proof_form.specs.declared.found.Found.TheVariants.{Yes, Node as WrongNode, No, Range, NoProof}
 

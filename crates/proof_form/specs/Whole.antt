@@ -12,14 +12,14 @@ use Rattle.proof_meaning.specs.Rules.{Runs}
 use Rattle.proof_meaning.specs.Reading.{node_read, step_read, lists_of, AreRead}
 use Rattle.look_ahead.specs.Ahead.{ahead}
 use Rattle.proof_read.specs.declared.read.ListPlaces.{ListPlaces}
-use Rattle.proof_form.specs.Range.{LeavesRange}
-use Rattle.proof_form.specs.Terms.{ProofTerms, with_term}
-use Rattle.proof_form.specs.Kept.{Kept, KeepsAll}
-use Rattle.proof_form.specs.Comes.{Comes, Stays, AreLiterals}
+use Rattle.proof_terms.specs.Range.{LeavesRange}
+use Rattle.proof_terms.specs.Terms.{ProofTerms, with_term}
+use Rattle.proof_terms.specs.Kept.{Kept, KeepsAll}
+use Rattle.proof_terms.specs.Comes.{Comes, Stays, AreLiterals}
 use Rattle.proof_form.specs.declared.found.Found.{Found}
 use Rattle.proof_form.specs.declared.found.Found.TheVariants.{Yes, No, Range as OutOfRange}
-use Rattle.proof_form.specs.declared.verdict.Verdict.{Verdict}
-use Rattle.proof_form.specs.declared.verdict.Verdict.TheVariants.{Good, Wrong, Range}
+use Rattle.proof_terms.specs.declared.verdict.Verdict.{Verdict}
+use Rattle.proof_terms.specs.declared.verdict.Verdict.TheVariants.{Good, Wrong, Range}
 
 -- ---- the two lists of a proof
 

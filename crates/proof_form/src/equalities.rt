@@ -9,14 +9,11 @@ ghost use Rattle.smt_meaning.specs.Term.{Tree};
 ghost use Rattle.proof_meaning.specs.Proof.{IsLiteral, literal, node_at};
 ghost use Rattle.proof_meaning.specs.Rules.{differing};
 ghost use Rattle.proof_form.specs.Asserted.{asserted_at};
-ghost use Rattle.proof_form.specs.Comes.{Comes};
-ghost use Rattle.proof_form.specs.Kept.{AreCodesOf, GoOn};
+ghost use Rattle.proof_terms.specs.Comes.{Comes};
+ghost use Rattle.proof_terms.specs.Kept.{AreCodesOf, GoOn};
 ghost use Rattle.proof_form.specs.EqualitiesKept.{IsKeptIfOver, cong_clause};
 
-use crate::clauses::Clauses;
-use crate::literals::{are_comparable, codes_of, is_bool};
-use crate::terms::Terms;
-use crate::verdict::Verdict;
+use proof_terms::{Clauses, Terms, Verdict, are_comparable, codes_of, is_bool};
 use smt_meaning::{Atom, Head, Literal, Operator, TermId};
 use std::alloc::{AllocError, Global};
 

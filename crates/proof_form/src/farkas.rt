@@ -4,20 +4,17 @@ ghost use Rattle.fraction128.specs.Number.{is_positive};
 ghost use Rattle.smt_meaning.specs.declared.clauses.Literal.{Literal as LiteralValue};
 ghost use Rattle.proof_meaning.specs.declared.proof.Step.TheVariants.{Farkas};
 ghost use Rattle.smt_meaning.specs.Term.{Tree};
-ghost use Rattle.proof_form.specs.Comes.{Comes};
+ghost use Rattle.proof_terms.specs.Comes.{Comes};
 ghost use Rattle.proof_read.specs.Written.{numbers_fit};
-ghost use Rattle.proof_form.specs.Range.{IsWeighted};
-ghost use Rattle.proof_form.specs.Kept.{KeepsAll};
+ghost use Rattle.proof_terms.specs.Range.{IsWeighted};
+ghost use Rattle.proof_terms.specs.Kept.{KeepsAll};
 ghost use Rattle.proof_form.specs.FarkasSums.{AreMultiples, ComeTo, is_bound, multiplies_bound, literals_of, verdict_by};
 
-use crate::clauses::Clauses;
 use crate::farkas_entries::{add_parts, sort_by_leaf};
 use crate::farkas_sums::are_zero;
-use crate::literals::is_literal;
-use crate::terms::Terms;
-use crate::verdict::Verdict;
 use fraction128::Fraction;
 use proof_meaning::Weighted;
+use proof_terms::{Clauses, Terms, Verdict, is_literal};
 use smt_meaning::Atom;
 use std::alloc::{AllocError, Global};
 
@@ -50,7 +47,12 @@ fn is_weighted(terms: &Terms<'_>, weighted: &Weighted) -> bool
 fn are_weighted(terms: &Terms<'_>, weighted: &[Weighted]) -> bool
     ensures { IsTrue result ↔ All (IsWeighted terms.now.declared terms.now.trees) weighted.now }
 {
-    weighted.iter().all(|part| is_weighted(terms, part))
+    for part in weighted {
+        if !is_weighted(terms, part) {
+            return false;
+        }
+    }
+    true
 }
 
 /// Whether a fraction is above 0.

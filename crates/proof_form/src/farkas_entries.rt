@@ -6,7 +6,7 @@ ghost use Rattle.fraction128.specs.Whole.{InRange, is_in_range};
 ghost use Rattle.fraction128.specs.Listed.{sum_of};
 ghost use Rattle.smt_meaning.specs.Linear.{sum_fits};
 ghost use Rattle.linear_forms.specs.Sums.{signed};
-ghost use Rattle.proof_form.specs.Range.{lowest};
+ghost use Rattle.proof_terms.specs.Range.{lowest};
 ghost use Rattle.proof_form.specs.FarkasSums.{IsMultiple, AreMultiples, signed_sum, signed_limit, sum_inside, multiple, multiple_inside, limit_inside, entries_of, multiples_inside, AfterPart, AfterParts};
 
 use fraction128::Fraction;

@@ -1,15 +1,12 @@
 //! Resolution.
-ghost use Rattle.std.specs.Prelude.{◌≡◌, ◌<◌, List, IfOk, true};
+ghost use Rattle.std.specs.Prelude.{◌≡◌, ◌<◌, ◌↔◌, List, Contains, IfOk, IsTrue, true};
 ghost use Rattle.proof_meaning.specs.declared.proof.Step.TheVariants.{Res};
 ghost use Rattle.smt_meaning.specs.Term.{Tree};
-ghost use Rattle.proof_form.specs.Comes.{Comes};
+ghost use Rattle.proof_terms.specs.Comes.{Comes};
 ghost use Rattle.proof_read.specs.Written.{numbers_fit};
 ghost use Rattle.proof_form.specs.ResolutionCodes.{IsOpposite};
 
-use crate::clauses::Clauses;
-use crate::clauses_laid::has;
-use crate::terms::Terms;
-use crate::verdict::Verdict;
+use proof_terms::{Clauses, Terms, Verdict};
 use smt_meaning::Literal;
 use std::alloc::{AllocError, Global};
 
@@ -18,6 +15,13 @@ fn opposite(code: u32) -> u32
     ensures { IsOpposite code result }
 {
     if code % 2 == 0 { code + 1 } else { code - 1 }
+}
+
+/// Whether a clause has a code.
+fn has(clause: &[u32], code: u32) -> bool
+    ensures { IsTrue result ↔ Contains clause.now code }
+{
+    clause.contains(&code)
 }
 
 /// `(res left right literal)`

@@ -1,22 +1,17 @@
 //! A step by its rule.
 ghost use Rattle.std.specs.Prelude.{◌≡◌, ◌<◌, true, length, All, IfOk};
 ghost use Rattle.proof_form.specs.Asserted.{asserted_at};
-ghost use Rattle.proof_form.specs.Comes.{Comes};
+ghost use Rattle.proof_terms.specs.Comes.{Comes};
 ghost use Rattle.proof_read.specs.Written.{numbers_fit};
 
-use crate::bounds::{judge_link, judge_round};
-use crate::clauses::Clauses;
 use crate::equalities::{
     judge_assert, judge_both, judge_cong, judge_neither, judge_pick, judge_refl, judge_sym,
     judge_trans, judge_truth,
 };
-use crate::euclid::judge_euclid;
 use crate::farkas::judge_farkas;
-use crate::form::judge_form;
 use crate::resolution::judge_resolution;
-use crate::terms::Terms;
-use crate::verdict::Verdict;
 use proof_meaning::Step;
+use proof_terms::{Clauses, Terms, Verdict, judge_euclid, judge_form, judge_link, judge_round};
 use smt_meaning::TermId;
 use std::alloc::{AllocError, Global};
 

@@ -1,5 +1,5 @@
 -- One text appended after another.
-use Rattle.std.proofs.Common.{◌≡◌, ℕ, List, [], ◌∷◌, ◌++◌, sym, ap, ◌∙◌, refl, Result, Ok, Err, append_assoc}
+use Rattle.std.proofs.Common.{◌≡◌, ℕ, List, ◌++◌, ap, ◌∙◌, Result, Ok, Err, append_assoc}
 use Rattle.std.specs.Result.{OnOk}
 
 pub appended : {A E : Type 0} (r : Result A E) (start mid new a b : List ℕ) → mid ≡ start ++ a

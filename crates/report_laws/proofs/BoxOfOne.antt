@@ -192,7 +192,7 @@ enough : (n : ℕ) → 387420507 < n → length atoms + 3 ^ length atoms < n
 enough n h = h
 
 pub small_box : SmallBoxIsNotSpent
-small_box limit branches us many spent = one_leaf trees frames 1 over_x limit 0 branches us atoms atoms_are_these (inl refl) (enough (most_units limit) many) spent
+small_box limit branches us many spent = one_leaf trees frames 1 over_x limit branches us atoms atoms_are_these (enough (most_units limit) many) spent
 
 -- ---- range
 

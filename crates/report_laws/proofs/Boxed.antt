@@ -1,4 +1,4 @@
--- A branch stays in its leaf's box, so the units of a worker without a limit are few.
+-- A branch stays in its leaf's box, so units without a limit are few.
 use Rattle.std.proofs.Common.{◌≡◌, ◌≢◌, ◌⊎◌, inl, inr, ℕ, zero, suc, ◌<◌, ◌≤◌, ◌*◌, ◌^◌, ℤ, pos, negsuc, ◌+ℤ◌, ◌-ℤ◌, ◌*ℤ◌, ◌≤ℤ◌, ◌<ℤ◌, neg_ℤ, unsigned_abs, sym, ap, ◌∙◌, subst, refl, arith, List, [], ◌∷◌, ◌++◌, length, Contains, Bool, true, false, Some, None}
 use Rattle.std.specs.Int.{◌∣◌}
 use Rattle.std.specs.Prelude.{int_lt, min, if◌then◌else◌}
@@ -247,8 +247,8 @@ stay_in_boxes ts frames sums branches boxed are a h = each_first ts frames sums 
 -- ---- units
 
 new_atom : (ts : List Tree) (frames : List Frame) (branches : List Line) (limit : ℤ) (before : List Spent) (u : Spent) → is_unlimited limit ≡ true
-    → IsUnit ts frames branches limit 0 before u → IsNewAtom ts frames branches before u
-new_atom ts frames branches limit before (Learnt c) none h = true_or_false (sym none ∙ h.costs refl)
+    → IsUnit ts frames branches limit before u → IsNewAtom ts frames branches before u
+new_atom ts frames branches limit before (Learnt c) none h = true_or_false (sym none ∙ h.costs)
 new_atom ts frames branches limit before (Pivot l) none h = true_or_false (sym none ∙ h)
 new_atom ts frames branches limit before (Numbered a) none h = record { atom = a; is = refl; of_check = h.of_check; not_of_stack = h.not_of_stack; new = h.new }
 

@@ -5,7 +5,6 @@ use Rattle.fraction128.specs.declared.Line.{Line}
 use Rattle.fraction128.specs.declared.Grid.{Grid}
 use Rattle.fraction128.specs.Lines.{Bounding, IsPivotIn, exchanged}
 use Rattle.fraction128.specs.Chain.{ComesFrom, left_by}
-use Rattle.smt_meaning.specs.declared.clauses.Clause.{Clause}
 use Rattle.smt_meaning.specs.declared.reports.Unit.{Unit as Spent}
 use Rattle.smt_meaning.specs.declared.reports.Unit.TheVariants.{Learnt, Numbered, Pivot}
 use Rattle.smt_meaning.specs.Report.{AreChained}
@@ -34,10 +33,3 @@ module _ (sums : List (List Summand)) (B : Bounding) where
   neighbours_in is here (Learnt d ∷ before) after l m c = neighbours_in is None before after l m c
   neighbours_in is here (Numbered a ∷ before) after l m c = neighbours_in is None before after l m c
   neighbours_in is here (Pivot n ∷ before) after l m c = neighbours_in (exchanged n is) (Some (left_by c.0)) before after l m c.2
-
-  -- a clause that is learnt may come after any
-  pub learnt_after : (is : ℕ → Bool) (here : Option Grid) (us : List Spent) (d : Clause) → AreChained sums B is here us → AreChained sums B is here (us ++ Learnt d ∷ [])
-  learnt_after is here [] d c = tt
-  learnt_after is here (Learnt e ∷ us) d c = learnt_after is None us d c
-  learnt_after is here (Numbered a ∷ us) d c = learnt_after is None us d c
-  learnt_after is here (Pivot l ∷ us) d c = (c.0, c.1, learnt_after (exchanged l is) (Some (left_by c.0)) us d c.2)

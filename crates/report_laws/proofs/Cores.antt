@@ -92,8 +92,8 @@ without_q = keeping (trial_keeps all_three all_three 1) three
 pub no_invention_holds_q : NoInventionHoldsQ
 no_invention_holds_q workers x z others r =
     let shown : AreReports workers [] without_q (pos 5) (nothing_spent ∷ others) = second_reason workers x (Reports (nothing_spent ∷ others)) z r in
-    let spent : AreAllSpent [] without_q (pos 5) 0 [] [] =
-    All-head (λ (t : Report). Shows [] without_q (pos 5) t.worker t.branches t.cause) nothing_spent others shown.shown
+    let spent : AreAllSpent [] without_q (pos 5) [] [] =
+    All-head (λ (t : Report). Shows [] without_q (pos 5) t.branches t.cause) nothing_spent others shown.shown
     in
     let none_spent : ◌≡◌ {A = ℕ} 0 5 = spent.count in
     absurd (omega (arith, none_spent))

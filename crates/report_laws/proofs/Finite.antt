@@ -259,13 +259,13 @@ module _ (Is : Atom → Type 0) (atoms : List Atom) (each : (a : Atom) → Is a 
   all_few is here (Pivot l ∷ us) c = let rest = all_few (exchanged l is) (Some (left_by c.0)) us c.2 in omega (arith, rest)
 
 pub units_are_finite : UnitsAreFinite
-units_are_finite ts frames limit worker branches us atoms leaves each leaf_in counted spent =
+units_are_finite ts frames limit branches us atoms leaves each leaf_in spent =
     let Is : Atom → Type 0 = IsCheckAtom ts frames branches in
     let sums : List (List Summand) = spent.sums in
     let n : ℕ = length leaves + length atoms in
     let few : length sums ≤ n = few_sums ts frames branches sums atoms leaves each leaf_in spent.known in
     let rows = all_few Is atoms each sums n few (first_basis sums) None us spent.chained in
     let lead = few_leading Is atoms each sums n few (first_basis sums) None us spent.chained in
-    let other : length (others us) ≤ most_others (length atoms) = few_others ts frames branches limit worker us atoms each counted spent.units in
+    let other : length (others us) ≤ most_others (length atoms) = few_others ts frames branches limit us atoms each spent.units in
     let up = times_up (length (others us)) (most_others (length atoms)) (most_neighbours n (length atoms) + 1) other in
     omega (arith, rows, lead, up)

@@ -8,7 +8,7 @@ use Rattle.fraction128.specs.declared.Summand.{Summand}
 use Rattle.fraction128.specs.declared.Pending.{Pending}
 use Rattle.fraction128.specs.declared.Side.{Side}
 use Rattle.fraction128.specs.Grid as G
-use Rattle.fraction128.specs.Grid.{Step, take, move, pivot, leaf, turned, column_at, value_at, missed, any_crossed, next_step, step_fits, take_fits, move_fits, distance_fits, every_row, fused_fits, distance, coefficient, bound_number, written_fits}
+use Rattle.fraction128.specs.Grid.{leaf, turned, distance_fits, coefficient, bound_number}
 use Rattle.smt_meaning.specs.declared.clauses.Summand as Terms
 use Rattle.smt_meaning.specs.declared.clauses.Atom.TheVariants.{AtMost, Same, Truth}
 use Rattle.smt_meaning.specs.Term.{Tree}
@@ -272,7 +272,7 @@ pub none_leaves : NoneLeaves
 none_leaves = nothing_leaves trees frames IsNear has_near parts has_parts
 
 pub no_units : NoUnits
-no_units limit worker branches us spent = (
+no_units limit branches us spent = (
   no_branches trees frames 1 over_x spent.sums branches spent.known spent.are_branches,
-  no_pivots trees frames 1 over_x limit worker branches us spent,
+  no_pivots trees frames 1 over_x limit branches us spent,
 )

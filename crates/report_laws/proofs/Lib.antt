@@ -19,4 +19,4 @@ mod BoxOfFive
 mod BoxOfOne
 mod BoxedAtoms
 mod Branch
-mod Repeated
+mod Twice

@@ -1,5 +1,5 @@
 -- Clauses over few atoms are few.
-use Rattle.std.proofs.Common.{◌≡◌, ◌≢◌, ◌⊎◌, inl, inr, ℕ, zero, suc, ◌+◌, ◌*◌, ◌≤◌, ◌^◌, sym, ap, ap₂, ◌∙◌, subst, refl, arith, List, [], ◌∷◌, ◌++◌, map, length, Contains, Bool, true, false, ℤ}
+use Rattle.std.proofs.Common.{◌≡◌, ◌≢◌, ◌⊎◌, inl, inr, suc, ◌+◌, ◌*◌, ◌≤◌, ◌^◌, sym, ap, ap₂, ◌∙◌, subst, refl, arith, List, [], ◌∷◌, ◌++◌, map, length, Contains, Bool, true, false, ℤ}
 use Rattle.std.specs.Prelude.{AllPairs}
 use Rattle.std.proofs.Math.Nat.{pow-suc}
 use Rattle.std.proofs.lemmas.List.{length-map, length-append, append_assoc}
@@ -14,11 +14,11 @@ use Rattle.smt_meaning.specs.Term.{Tree}
 use Rattle.smt_meaning.specs.Stack.{Frame}
 use Rattle.smt_meaning.specs.Forced.{Reaches, Forces}
 use Rattle.smt_meaning.specs.CheckAtoms.{IsCheckAtom}
-use Rattle.smt_meaning.specs.Report.{negated, IsKept, IsGiven, most_units, IsLearnt, IsUnit, AreUnits}
+use Rattle.smt_meaning.specs.Report.{negated, IsGiven, most_units, IsLearnt, IsUnit, AreUnits}
 use Rattle.report_laws.proofs.Listed.{in_cons, in_none}
 use Rattle.report_laws.proofs.Counted.{AreApart, no_longer, apart_by, split_at, first_in, later_in, middle_in, without, with_middle, in_list, from_list}
 use Rattle.report_laws.proofs.OneLeaf.{no_branches, no_pivots}
-use Rattle.report_laws.specs.Limited.{AllCount, FewUnitsAreNotSpent, OneLeafIsNotSpent}
+use Rattle.report_laws.specs.Limited.{FewUnitsAreNotSpent, OneLeafIsNotSpent}
 
 -- ---- literals over different atoms
 
@@ -51,7 +51,7 @@ abbrev sets : List Atom → List (List Literal)
 sets [] = [] ∷ []
 sets (a ∷ atoms) = sets atoms ++ (map (λ s. record { atom = a; positive = true } ∷ s) (sets atoms) ++ map (λ s. record { atom = a; positive = false } ∷ s) (sets atoms))
 
-abbrev AreSame : List Literal → List Literal → Type 0
+abbrev pub AreSame : List Literal → List Literal → Type 0
 AreSame ls s = ((l : Literal) → Contains ls l → Contains s l) × ((l : Literal) → Contains s l → Contains ls l)
 
 set_count : (atoms : List Atom) → length (sets atoms) ≡ 3 ^ length atoms
@@ -181,26 +181,10 @@ forces_same c d apart there back before after l e =
     (without before after l m (middle_differs s.front s.back l m (subst AreDifferent s.is apart) k)
     (subst (λ z. Contains z m) e (back m (subst (λ z. Contains z m) (sym s.is) (with_middle s.front s.back l m k))))))))
 
--- the literals of a clause have different atoms, so they aren't more
-abbrev IsOf : Literal → Atom → Type 0
-IsOf l a = l.atom ≡ a
-
-all_apart : (ls : List Literal) → AreDifferent ls → AreApart IsOf ls
-all_apart [] d = tt
-all_apart (l ∷ ls) d = (λ m c a e f. d.0 m c (e ∙ sym f), all_apart ls d.1)
-
-not_longer : (atoms : List Atom) (ls : List Literal) → AreDifferent ls → ((l : Literal) → Contains ls l → Contains atoms l.atom) → length ls ≤ length atoms
-not_longer atoms ls d over = no_longer IsOf ls atoms (all_apart ls d) (λ l c. (l.atom, over l c, refl))
-
-counts : (worker : ℕ) (atoms : List Atom) (ls : List Literal) → AllCount worker (length atoms) → length ls ≤ length atoms → IsKept worker ls
-counts zero atoms ls h short = tt
-counts (suc w) atoms ls (inl e) short = absurd (omega (arith, e))
-counts (suc w) atoms ls (inr few) short = omega (arith, few, short)
-
 -- ---- units
 
 -- what stands for a unit: the atom that it numbers, or the set of the literals that it learns
-abbrev StandsFor : Spent → Atom ⊎ List Literal → Type 0
+abbrev pub StandsFor : Spent → Atom ⊎ List Literal → Type 0
 StandsFor (Numbered a) (inl b) = a ≡ b
 StandsFor (Numbered a) (inr s) = ⊥
 StandsFor (Learnt c) (inl b) = ⊥
@@ -220,49 +204,28 @@ standing_count atoms =
     let power : length (sets atoms) ≡ 3 ^ length atoms = set_count atoms in
     omega (arith, both, one, two, power)
 
-module _ (ts : List Tree) (frames : List Frame) (branches : List Line) (limit : ℤ) (worker : ℕ) (atoms : List Atom) (each : (a : Atom) → IsCheckAtom ts frames branches a → Contains atoms a) (counted : AllCount worker (length atoms)) where
-  over_atoms : (before : List Spent) (c : Clause) → IsLearnt ts frames branches limit worker before c → (l : Literal) → Contains c.literals l → Contains atoms l.atom
-  over_atoms before c h l k = each l.atom (subst (λ (m : Literal). IsCheckAtom ts frames branches m.atom) k.2 (h.of_check k.0 l k.1))
-
-  all_different : (before : List Spent) (c : Clause) → IsLearnt ts frames branches limit worker before c → AreDifferent c.literals
+-- what stands for a clause stands for none after it: the earlier one would force it
+module _ (ts : List Tree) (frames : List Frame) (branches : List Line) (limit : ℤ) where
+  all_different : (before : List Spent) (c : Clause) → IsLearnt ts frames branches limit before c → AreDifferent c.literals
   all_different before c h = different c.literals h.no_two
 
-  has_standing : (before : List Spent) (u : Spent) → ((l : Line) → u ≡ Pivot l → ⊥) → IsUnit ts frames branches limit worker before u → (y : Atom ⊎ List Literal) × Contains (standing atoms) y × StandsFor u y
-  has_standing before (Numbered a) no_pivot h =
-      (inl a, Contains-append_left (map (λ b. inl b) atoms) (map (λ s. inr s) (sets atoms)) (inl a) (in_list (λ b. inl b) atoms a (each a h.of_check)), refl)
-  has_standing before (Learnt c) no_pivot h =
-      let s = set_of atoms c.literals (all_different before c h) (over_atoms before c h) in
-      (inr s.0, Contains-append_right (map (λ b. inl b) atoms) (map (λ z. inr z) (sets atoms)) (inr s.0) (in_list (λ z. inr z) (sets atoms) s.0 s.1), s.2)
-  has_standing before (Pivot l) no_pivot h = absurd (no_pivot l refl)
+  not_again : (before : List Spent) (d c : Clause) (f : List Spent) → IsLearnt ts frames branches limit f d → Contains before (Learnt d) → IsLearnt ts frames branches limit before c
+      → (s : List Literal) → AreSame d.literals s → AreSame c.literals s → ⊥
+  not_again before d c f was learnt unit s k h =
+      let given : IsGiven ts frames before d.literals = inr (inr (record { clause = d; learnt = learnt; same = refl })) in
+      unit.unforced (d.literals ∷ []) (All-cons (IsGiven ts frames before) d.literals [] given (All-nil (IsGiven ts frames before)))
+      (forces_same c.literals d.literals (all_different f d was) (λ l m. k.1 l (h.0 l m)) (λ l m. h.1 l (k.0 l m)))
 
-  -- what stands for a clause stands for none after it: the earlier one would force it
-  module _ (before : List Spent) (d c : Clause) (f : List Spent) (was : IsLearnt ts frames branches limit worker f d) (learnt : Contains before (Learnt d)) (unit : IsLearnt ts frames branches limit worker before c) where
-    apart : AreDifferent d.literals
-    apart = all_different f d was
-
-    given : IsGiven ts frames worker before d.literals
-    given = inr (inr (record {
-      clause = d;
-      learnt = learnt;
-      kept = counts worker atoms d.literals counted (not_longer atoms d.literals apart (over_atoms f d was));
-      same = refl;
-    }))
-
-    not_again : (s : List Literal) → AreSame d.literals s → AreSame c.literals s → ⊥
-    not_again s k h =
-        unit.unforced (d.literals ∷ []) (All-cons (IsGiven ts frames worker before) d.literals [] given (All-nil (IsGiven ts frames worker before)))
-        (forces_same c.literals d.literals apart (λ l m. k.1 l (h.0 l m)) (λ l m. h.1 l (k.0 l m)))
-
-  stands_once : (us : List Spent) → AreUnits ts frames branches limit worker us → (before after : List Spent) (u : Spent) → us ≡ before ++ u ∷ after
+  pub stands_once : (us : List Spent) → AreUnits ts frames branches limit us → (before after : List Spent) (u : Spent) → us ≡ before ++ u ∷ after
       → (z : Spent) → Contains before z → (y : Atom ⊎ List Literal) → StandsFor z y → StandsFor u y → ⊥
   stands_once us units before after u e z c y k h = by z u c (units before after u e) y k h
     where
-      earlier_learnt : (d : Clause) → Contains before (Learnt d) → (f : List Spent) × IsLearnt ts frames branches limit worker f d
+      earlier_learnt : (d : Clause) → Contains before (Learnt d) → (f : List Spent) × IsLearnt ts frames branches limit f d
       earlier_learnt d i =
           let s = split_at before (Learnt d) i in
           (s.front, units s.front (s.back ++ u ∷ after) (Learnt d) (e ∙ (ap (λ xs. xs ++ u ∷ after) s.is ∙ append_assoc s.front (Learnt d ∷ s.back) (u ∷ after))))
 
-      by : (z u : Spent) → Contains before z → IsUnit ts frames branches limit worker before u → (y : Atom ⊎ List Literal) → StandsFor z y → StandsFor u y → ⊥
+      by : (z u : Spent) → Contains before z → IsUnit ts frames branches limit before u → (y : Atom ⊎ List Literal) → StandsFor z y → StandsFor u y → ⊥
       by (Numbered a) (Numbered b) i unit (inl x) k h = unit.new (subst (λ w. Contains before (Numbered w)) (k ∙ sym h) i)
       by (Numbered a) (Numbered b) i unit (inr s) k h = k
       by (Learnt d) (Learnt c) i unit (inl x) k h = k
@@ -274,6 +237,18 @@ module _ (ts : List Tree) (frames : List Frame) (branches : List Line) (limit : 
       by (Pivot l) u i unit y k h = k
       by (Numbered a) (Pivot l) i unit y k h = h
       by (Learnt d) (Pivot l) i unit y k h = h
+
+module _ (ts : List Tree) (frames : List Frame) (branches : List Line) (limit : ℤ) (atoms : List Atom) (each : (a : Atom) → IsCheckAtom ts frames branches a → Contains atoms a) where
+  over_atoms : (before : List Spent) (c : Clause) → IsLearnt ts frames branches limit before c → (l : Literal) → Contains c.literals l → Contains atoms l.atom
+  over_atoms before c h l k = each l.atom (subst (λ (m : Literal). IsCheckAtom ts frames branches m.atom) k.2 (h.of_check k.0 l k.1))
+
+  has_standing : (before : List Spent) (u : Spent) → ((l : Line) → u ≡ Pivot l → ⊥) → IsUnit ts frames branches limit before u → (y : Atom ⊎ List Literal) × Contains (standing atoms) y × StandsFor u y
+  has_standing before (Numbered a) no_pivot h =
+      (inl a, Contains-append_left (map (λ b. inl b) atoms) (map (λ s. inr s) (sets atoms)) (inl a) (in_list (λ b. inl b) atoms a (each a h.of_check)), refl)
+  has_standing before (Learnt c) no_pivot h =
+      let s = set_of atoms c.literals (all_different ts frames branches limit before c h) (over_atoms before c h) in
+      (inr s.0, Contains-append_right (map (λ b. inl b) atoms) (map (λ z. inr z) (sets atoms)) (inr s.0) (in_list (λ z. inr z) (sets atoms) s.0 s.1), s.2)
+  has_standing before (Pivot l) no_pivot h = absurd (no_pivot l refl)
 
 -- ---- the units that aren't pivots
 
@@ -304,14 +279,14 @@ others_apart (Learnt d ∷ us) h = (λ z c y k j. h.0 z (among_others us z c).0 
 others_apart (Numbered a ∷ us) h = (λ z c y k j. h.0 z (among_others us z c).0 y k j, others_apart us h.1)
 others_apart (Pivot m ∷ us) h = others_apart us h.1
 
-pub few_others : (ts : List Tree) (frames : List Frame) (branches : List Line) (limit : ℤ) (worker : ℕ) (us : List Spent) (atoms : List Atom) → ((a : Atom) → IsCheckAtom ts frames branches a → Contains atoms a)
-    → AllCount worker (length atoms) → AreUnits ts frames branches limit worker us → length (others us) ≤ length atoms + 3 ^ length atoms
-few_others ts frames branches limit worker us atoms each counted units =
-    let apart : AreApart StandsFor us = apart_by StandsFor us (stands_once ts frames branches limit worker atoms each counted us units) in
+pub few_others : (ts : List Tree) (frames : List Frame) (branches : List Line) (limit : ℤ) (us : List Spent) (atoms : List Atom) → ((a : Atom) → IsCheckAtom ts frames branches a → Contains atoms a)
+    → AreUnits ts frames branches limit us → length (others us) ≤ length atoms + 3 ^ length atoms
+few_others ts frames branches limit us atoms each units =
+    let apart : AreApart StandsFor us = apart_by StandsFor us (stands_once ts frames branches limit us units) in
     let short : length (others us) ≤ length (standing atoms) = no_longer StandsFor (others us) (standing atoms) (others_apart us apart) (λ u c. (
     let k = among_others us u c in
     let s = split_at us u k.0 in
-    has_standing ts frames branches limit worker atoms each counted s.front u k.1 (units s.front s.back u s.is)
+    has_standing ts frames branches limit atoms each s.front u k.1 (units s.front s.back u s.is)
     )) in
     let size : length (standing atoms) ≡ length atoms + 3 ^ length atoms = standing_count atoms in
     omega (arith, short, size)
@@ -319,17 +294,17 @@ few_others ts frames branches limit worker us atoms each counted units =
 -- ---- reports
 
 pub few_units : FewUnitsAreNotSpent
-few_units ts frames limit worker branches us atoms each counted few unpivoted spent =
-    let apart : AreApart StandsFor us = apart_by StandsFor us (stands_once ts frames branches limit worker atoms each counted us spent.units) in
+few_units ts frames limit branches us atoms each few unpivoted spent =
+    let apart : AreApart StandsFor us = apart_by StandsFor us (stands_once ts frames branches limit us spent.units) in
     let short : length us ≤ length (standing atoms) = no_longer StandsFor us (standing atoms) apart (λ u c. (
     let s = split_at us u c in
-    has_standing ts frames branches limit worker atoms each counted s.front u (λ l e. unpivoted s.front s.back l (s.is ∙ ap (λ v. s.front ++ v ∷ s.back) e)) (spent.units s.front s.back u s.is)
+    has_standing ts frames branches limit atoms each s.front u (λ l e. unpivoted s.front s.back l (s.is ∙ ap (λ v. s.front ++ v ∷ s.back) e)) (spent.units s.front s.back u s.is)
     )) in
     let size : length (standing atoms) ≡ length atoms + 3 ^ length atoms = standing_count atoms in
     let count : length us ≡ most_units limit = spent.count in
     omega (arith, short, size, count, few)
 
 pub one_leaf : OneLeafIsNotSpent
-one_leaf ts frames t over limit worker branches us atoms each counted few spent =
+one_leaf ts frames t over limit branches us atoms each few spent =
     let none : branches ≡ [] = no_branches ts frames t over spent.sums branches spent.known spent.are_branches in
-    few_units ts frames limit worker branches us atoms (λ a h. each a (subst (λ ls. IsCheckAtom ts frames ls a) none h)) counted few (no_pivots ts frames t over limit worker branches us spent) spent
+    few_units ts frames limit branches us atoms (λ a h. each a (subst (λ ls. IsCheckAtom ts frames ls a) none h)) few (no_pivots ts frames t over limit branches us spent) spent

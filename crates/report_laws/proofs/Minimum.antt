@@ -65,7 +65,7 @@ nothing_else v i m =
 -- ---- the best that is known
 
 abbrev Shown : List Tree → List Frame → ℤ → Report → Type 0
-Shown ts fs limit r = Shows ts fs limit r.worker r.branches r.cause
+Shown ts fs limit r = Shows ts fs limit r.branches r.cause
 
 memory_wanted : (ts : List Tree) (fs : List Frame) (limit : ℤ) → AreReports 1 ts fs limit (wanted_memory 0 ∷ [])
 memory_wanted ts fs limit = record {
@@ -119,7 +119,7 @@ nothing_below workers limit i (Some b) rs r = model_above i r.0
 
 unspent : (workers : ℕ) (ts : List Tree) (fs : List Frame) (others : List Report) → AreReports workers ts fs (pos 5) (nothing_spent ∷ others) → ⊥
 unspent workers ts fs others r =
-    let spent : AreAllSpent ts fs (pos 5) 0 [] [] = All-head (Shown ts fs (pos 5)) nothing_spent others r.shown in
+    let spent : AreAllSpent ts fs (pos 5) [] [] = All-head (Shown ts fs (pos 5)) nothing_spent others r.shown in
     let none_spent : ◌≡◌ {A = ℕ} 0 5 = spent.count in
     absurd (omega (arith, none_spent))
 

@@ -188,5 +188,5 @@ module _ (trees : List Tree) (frames : List Frame) (Near : ℤ → Type 0) (has 
       true_false (sym (one_of (λ (t : Tree). fits (meaning tables) t ≡ true) parts all m.tree (have.each m.tree m.part)) ∙ m.outside)
 
   pub nothing_leaves : NothingLeaves trees frames
-  nothing_leaves limit worker [] seen r = past seen r
-  nothing_leaves limit worker (l ∷ ls) seen r = let z : l ∷ ls ≡ [] = no_branches trees frames 1 has.over r.sums (l ∷ ls) r.known r.are_branches in cc
+  nothing_leaves limit [] seen r = past seen r
+  nothing_leaves limit (l ∷ ls) seen r = let z : l ∷ ls ≡ [] = no_branches trees frames 1 has.over r.sums (l ∷ ls) r.known r.are_branches in cc

@@ -102,17 +102,17 @@ no_branches ts frames t over sums (l ∷ ls) table are =
     true_false (sym row.basic ∙ none_basic (IsKnownSum ts frames) t over sums table _ row.grid row.sound row.variable)
 
 pub no_pivots : NoPivots
-no_pivots ts frames t over limit worker branches us spent before after l e =
+no_pivots ts frames t over limit branches us spent before after l e =
     let chained = subst (AreChained spent.sums (IsBoundOf (IsCheckAtom ts frames branches)) (first_basis spent.sums) None) e spent.chained in
     let p = (pivot_in spent.sums (IsBoundOf (IsCheckAtom ts frames branches)) (first_basis spent.sums) None before after l chained).pivot in
     true_false (sym (leaves_basic p.grid p.leaves p.number p.enters p.next) ∙ none_basic (IsKnownSum ts frames) t over spent.sums spent.known _ p.grid p.sound p.leaves)
 
 pub no_empty_sums : NoEmptySums
-no_empty_sums ts frames limit worker branches g i lt e r =
+no_empty_sums ts frames limit branches g i lt e r =
     let h = r.leaves.grid.columns i lt in r.known.filled i [] h.0 (sym h.1 ∙ e)
 
 pub no_sum_twice : NoSumTwice
-no_sum_twice ts frames limit worker branches g i j lt lj e r =
+no_sum_twice ts frames limit branches g i j lt lj e r =
     let h = r.leaves.grid.columns i (omega (arith, lt, lj)) in
     let k = r.leaves.grid.columns j lj in
     r.known.apart i j [] lt k.0 (sym h.1 ∙ e ∙ k.1)

@@ -96,7 +96,7 @@ pending p e = subst (IsOnAtom (IsCheckAtom trees frames [])) (some e) (record { 
     some e = cc
 
 pub step_is_past : StepIsPast
-step_is_past limit worker = record {
+step_is_past limit = record {
   sums = leaf 0 ∷ [];
   known = table;
   are_branches = tt;

@@ -135,7 +135,7 @@ unfolding gcd_of sum_of sum_over reduced_by sum_steps product_of product_steps
 moving_fails = record { step = move 1 greatest; next = refl; fails = refl }
 
 pub sum_is_past : SumIsPast
-sum_is_past limit worker = record { sums = sums; known = table; are_branches = tt; leaves = record { grid = moving_sound; pending = λ p e. nothing p e; next = moving_fails } }
+sum_is_past limit = record { sums = sums; known = table; are_branches = tt; leaves = record { grid = moving_sound; pending = λ p e. nothing p e; next = moving_fails } }
   where
     nothing : (p : Pending) → None ≡ Some p → IsOnAtom Is p
     nothing p e = absurd (cc)
@@ -152,12 +152,12 @@ pivoting_is : IsPivotIn sums (IsBoundOf Is) (first_basis sums) (pivot_line pivot
 pivoting_is = record { grid = pivoting; sound = pivoting_sound; basis = basis; leaves = 2; number = greatest; enters = 0; next = refl; line = refl }
 
 pub one_pivot : OnePivot
-one_pivot worker = record {
+one_pivot = record {
   count = refl;
   sums = sums;
   known = table;
   are_branches = tt;
-  units = one_more_unit trees frames [] (pos 1) worker [] (Pivot (pivot_line pivoting 2 0)) (no_units trees frames [] (pos 1) worker) refl;
+  units = one_more_unit trees frames [] (pos 1) [] (Pivot (pivot_line pivoting 2 0)) (no_units trees frames [] (pos 1)) refl;
   chained = (pivoting_is, tt, tt);
 }
 

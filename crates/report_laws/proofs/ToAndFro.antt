@@ -101,7 +101,7 @@ module _ (sums : List (List Summand)) (B : Bounding) (is : ℕ → Bool) where
       sym (ap (λ (c : Column). c.lower) (second q.grid (member_of back (minus_entry 1)) (member_of back (entry 2)) (entries_of (row_of q.grid.rows q.leaves)) rows))
 
 pub to_and_fro_is_refused : ToAndFroIsRefused
-to_and_fro_is_refused limit worker branches before after spent =
+to_and_fro_is_refused limit branches before after spent =
     let B : Bounding = IsBoundOf (IsCheckAtom trees frames branches) in
     let n = neighbours_in spent.sums B (first_basis spent.sums) None before after (to_and_fro true) (to_and_fro false) spent.chained in
     let low = lower_left spent.sums B n.basis n.first in

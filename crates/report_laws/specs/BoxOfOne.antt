@@ -48,9 +48,9 @@ atoms =
 abbrev pub AtomsAreThese : Type 0
 AtomsAreThese = (a : Atom) → IsFirstAtom trees frames a → Contains atoms a
 
--- so under a limit above 18 + 3^18, or without one, the worker 0 doesn't show spent units
+-- so under a limit above 18 + 3^18, or without one, no worker shows spent units
 abbrev pub SmallBoxIsNotSpent : Type 0
-SmallBoxIsNotSpent = (limit : ℤ) (branches : List Line) (us : List Spent) → 387420507 < most_units limit → Shows trees frames limit 0 branches (Units us) → ⊥
+SmallBoxIsNotSpent = (limit : ℤ) (branches : List Line) (us : List Spent) → 387420507 < most_units limit → Shows trees frames limit branches (Units us) → ⊥
 
 -- and no worker shows that a number left the range
 abbrev pub SmallBoxIsInRange : Type 0

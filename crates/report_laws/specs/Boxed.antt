@@ -30,7 +30,7 @@ BranchesStayInBoxes =
     (ts : List Tree) (frames : List Frame) (sums : List (List Summand)) (branches : List Line) → AreBoxed ts frames → AreBranches ts frames sums branches
     → (a : Atom) → IsCheckAtom ts frames branches a → IsFirstAtom ts frames a
 
--- ---- spent units of the worker 0, where there is no limit
+-- ---- spent units where there is no limit
 
 -- an atom of the check that isn't the stack's and wasn't numbered before
 pub record IsNewAtom (ts : List Tree) (frames : List Frame) (branches : List Line) (earlier : List Spent) (u : Spent) : Type 0 where
@@ -43,17 +43,17 @@ pub record IsNewAtom (ts : List Tree) (frames : List Frame) (branches : List Lin
 -- each is such an atom
 abbrev pub UnitsAreNewAtoms : Type 0
 UnitsAreNewAtoms =
-    (ts : List Tree) (frames : List Frame) (limit : ℤ) (branches : List Line) (us : List Spent) → is_unlimited limit ≡ true → AreAllSpent ts frames limit 0 branches us
+    (ts : List Tree) (frames : List Frame) (limit : ℤ) (branches : List Line) (us : List Spent) → is_unlimited limit ≡ true → AreAllSpent ts frames limit branches us
     → (before after : List Spent) (u : Spent) → us ≡ before ++ u ∷ after → IsNewAtom ts frames branches before u
 
 -- so no report of spent units is lawful where a list of fewer than 2^40 atoms has each that the check may have
 abbrev pub FewAtomsAreNotSpent : Type 0
 FewAtomsAreNotSpent =
     (ts : List Tree) (frames : List Frame) (limit : ℤ) (branches : List Line) (us : List Spent) (atoms : List Atom) → is_unlimited limit ≡ true
-    → ((a : Atom) → IsCheckAtom ts frames branches a → Contains atoms a) → length atoms < 2 ^ 40 → AreAllSpent ts frames limit 0 branches us → ⊥
+    → ((a : Atom) → IsCheckAtom ts frames branches a → Contains atoms a) → length atoms < 2 ^ 40 → AreAllSpent ts frames limit branches us → ⊥
 
 -- on boxed stacks it need have those before any branch alone
 abbrev pub BoxedStacksAreNotSpent : Type 0
 BoxedStacksAreNotSpent =
     (ts : List Tree) (frames : List Frame) (limit : ℤ) (branches : List Line) (us : List Spent) (atoms : List Atom) → is_unlimited limit ≡ true → AreBoxed ts frames
-    → ((a : Atom) → IsFirstAtom ts frames a → Contains atoms a) → length atoms < 2 ^ 40 → AreAllSpent ts frames limit 0 branches us → ⊥
+    → ((a : Atom) → IsFirstAtom ts frames a → Contains atoms a) → length atoms < 2 ^ 40 → AreAllSpent ts frames limit branches us → ⊥

@@ -103,4 +103,4 @@ ListIsShort = (ts : List Tree) (frames : List Frame) (parts : List Tree) → len
 abbrev pub SmallBoxesAreNotSpent : Type 0
 SmallBoxesAreNotSpent =
     (ts : List Tree) (frames : List Frame) (limit : ℤ) (branches : List Line) (us : List Spent) (parts : List Tree) → is_unlimited limit ≡ true → AreBoxed ts frames → AreAllParts frames parts
-    → atom_count ts frames parts < 2 ^ 40 → AreAllSpent ts frames limit 0 branches us → ⊥
+    → atom_count ts frames parts < 2 ^ 40 → AreAllSpent ts frames limit branches us → ⊥

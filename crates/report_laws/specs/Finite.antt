@@ -7,7 +7,6 @@ use Rattle.smt_meaning.specs.Term.{Tree}
 use Rattle.smt_meaning.specs.Stack.{Frame}
 use Rattle.smt_meaning.specs.CheckAtoms.{IsLeaf, IsCheckAtom}
 use Rattle.smt_meaning.specs.Report.{AreAllSpent}
-use Rattle.report_laws.specs.Limited.{AllCount}
 
 -- of n variables and m atoms, pivots with no other unit between: fewer than 3^n while the bounds stay, and each variable comes once and has each of its bounds tightened at most 2m times
 abbrev pub most_neighbours : ℕ → ℕ → ℕ
@@ -24,6 +23,6 @@ most_of_all n m = most_neighbours n m + most_others m * (most_neighbours n m + 1
 -- a variable is one of a leaf, or of the sum of an atom
 abbrev pub UnitsAreFinite : Type 0
 UnitsAreFinite =
-    (ts : List Tree) (frames : List Frame) (limit : ℤ) (worker : ℕ) (branches : List Line) (us : List Spent) (atoms : List Atom) (leaves : List ℕ)
-    → ((a : Atom) → IsCheckAtom ts frames branches a → Contains atoms a) → ((t : ℕ) → IsLeaf ts frames t → Contains leaves t) → AllCount worker (length atoms)
-    → AreAllSpent ts frames limit worker branches us → length us ≤ most_of_all (length leaves + length atoms) (length atoms)
+    (ts : List Tree) (frames : List Frame) (limit : ℤ) (branches : List Line) (us : List Spent) (atoms : List Atom) (leaves : List ℕ)
+    → ((a : Atom) → IsCheckAtom ts frames branches a → Contains atoms a) → ((t : ℕ) → IsLeaf ts frames t → Contains leaves t)
+    → AreAllSpent ts frames limit branches us → length us ≤ most_of_all (length leaves + length atoms) (length atoms)

@@ -1,5 +1,5 @@
 -- The stack of (assert (<= 5 x)).
-use Rattle.std.specs.Prelude.{◌≡◌, ℕ, ℤ, pos, false, List, [], ◌∷◌, ◌++◌, None, codes}
+use Rattle.std.specs.Prelude.{◌≡◌, ℤ, pos, false, List, [], ◌∷◌, ◌++◌, None, codes}
 use Rattle.fraction128.specs.declared.Line.{Line}
 use Rattle.smt_meaning.specs.declared.values.Sort.TheVariants.{Int as Ints}
 use Rattle.smt_meaning.specs.declared.terms.Operator.TheVariants.{AtMost as IsAtMost}
@@ -37,5 +37,5 @@ NoneLeaves = NothingLeaves trees frames
 -- no unit is a pivot, and there are no branches
 abbrev pub NoUnits : Type 0
 NoUnits =
-    (limit : ℤ) (worker : ℕ) (branches : List Line) (us : List Spent) → Shows trees frames limit worker branches (Units us)
+    (limit : ℤ) (branches : List Line) (us : List Spent) → Shows trees frames limit branches (Units us)
     → (branches ≡ []) × ((before after : List Spent) (l : Line) → us ≡ before ++ Pivot l ∷ after → ⊥)

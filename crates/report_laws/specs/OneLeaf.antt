@@ -20,7 +20,7 @@ IsOverOneLeaf ts frames t = (ps : List Summand) → IsKnownSum ts frames ps → 
 
 -- no worker shows that a number left the range, by whatever cause, under any limit and with any branches
 abbrev pub NothingLeaves : List Tree → List Frame → Type 0
-NothingLeaves ts frames = (limit : ℤ) (worker : ℕ) (branches : List Line) (seen : RangeSeen) → Shows ts frames limit worker branches (Range seen) → ⊥
+NothingLeaves ts frames = (limit : ℤ) (branches : List Line) (seen : RangeSeen) → Shows ts frames limit branches (Range seen) → ⊥
 
 abbrev pub NoBranches : Type 0
 NoBranches =
@@ -30,17 +30,17 @@ NoBranches =
 abbrev pub NoPivots : Type 0
 NoPivots =
     (ts : List Tree) (frames : List Frame) (t : ℕ) → IsOverOneLeaf ts frames t
-    → (limit : ℤ) (worker : ℕ) (branches : List Line) (us : List Spent) → AreAllSpent ts frames limit worker branches us
+    → (limit : ℤ) (branches : List Line) (us : List Spent) → AreAllSpent ts frames limit branches us
     → (before after : List Spent) (l : Line) → us ≡ before ++ Pivot l ∷ after → ⊥
 
 -- on every stack: a grid with a column of the empty sum is refused
 abbrev pub NoEmptySums : Type 0
 NoEmptySums =
-    (ts : List Tree) (frames : List Frame) (limit : ℤ) (worker : ℕ) (branches : List Line) (g : Grid) (i : ℕ) → i < length g.columns → (column_at g i).sum ≡ []
-    → Shows ts frames limit worker branches (Range (Step g)) → ⊥
+    (ts : List Tree) (frames : List Frame) (limit : ℤ) (branches : List Line) (g : Grid) (i : ℕ) → i < length g.columns → (column_at g i).sum ≡ []
+    → Shows ts frames limit branches (Range (Step g)) → ⊥
 
 -- and one with two columns of a sum
 abbrev pub NoSumTwice : Type 0
 NoSumTwice =
-    (ts : List Tree) (frames : List Frame) (limit : ℤ) (worker : ℕ) (branches : List Line) (g : Grid) (i j : ℕ) → i < j → j < length g.columns → (column_at g i).sum ≡ (column_at g j).sum
-    → Shows ts frames limit worker branches (Range (Step g)) → ⊥
+    (ts : List Tree) (frames : List Frame) (limit : ℤ) (branches : List Line) (g : Grid) (i j : ℕ) → i < j → j < length g.columns → (column_at g i).sum ≡ (column_at g j).sum
+    → Shows ts frames limit branches (Range (Step g)) → ⊥

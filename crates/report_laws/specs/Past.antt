@@ -1,5 +1,5 @@
 -- The stack of (assert (not (<= x MAX))), where MAX is the range's end.
-use Rattle.std.specs.Prelude.{ℕ, ℤ, pos, false, List, [], ◌∷◌, Some, None, codes}
+use Rattle.std.specs.Prelude.{ℤ, pos, false, List, [], ◌∷◌, Some, None, codes}
 use Rattle.fraction128.specs.Number.{whole}
 use Rattle.fraction128.specs.declared.Grid.{Grid}
 use Rattle.fraction128.specs.declared.Column.{Column}
@@ -47,4 +47,4 @@ grid = record { columns = column ∷ []; rows = []; pending = Some (record { sum
 
 -- to take it in leaves the range, and shows it
 abbrev pub StepIsPast : Type 0
-StepIsPast = (limit : ℤ) (worker : ℕ) → Shows trees frames limit worker [] (Range (Step grid))
+StepIsPast = (limit : ℤ) → Shows trees frames limit [] (Range (Step grid))

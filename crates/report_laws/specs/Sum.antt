@@ -76,11 +76,11 @@ pivoting = grid_of None (pos 0) None (pos 0) (Some greatest) (pos 0)
 
 -- the sum leaves the range as y moves
 abbrev pub SumIsPast : Type 0
-SumIsPast = (limit : ℤ) (worker : ℕ) → Shows trees frames limit worker [] (Range (Step moving))
+SumIsPast = (limit : ℤ) → Shows trees frames limit [] (Range (Step moving))
 
 -- under a limit of one unit a pivot is that unit
 abbrev pub OnePivot : Type 0
-OnePivot = (worker : ℕ) → Shows trees frames (pos 1) worker [] (Units (Pivot (pivot_line pivoting 2 0) ∷ []))
+OnePivot = Shows trees frames (pos 1) [] (Units (Pivot (pivot_line pivoting 2 0) ∷ []))
 
 -- ---- to and fro
 
@@ -113,5 +113,5 @@ EachIsAPivot =
 -- but no report has them as neighbours
 abbrev pub ToAndFroIsRefused : Type 0
 ToAndFroIsRefused =
-    (limit : ℤ) (worker : ℕ) (branches : List Line) (before after : List Spent)
-    → AreAllSpent trees frames limit worker branches (before ++ Pivot (to_and_fro true) ∷ Pivot (to_and_fro false) ∷ after) → ⊥
+    (limit : ℤ) (branches : List Line) (before after : List Spent)
+    → AreAllSpent trees frames limit branches (before ++ Pivot (to_and_fro true) ∷ Pivot (to_and_fro false) ∷ after) → ⊥

@@ -9,13 +9,12 @@ use Rattle.fraction128.specs.declared.Line.{Line}
 use Rattle.fraction128.specs.declared.Grid.{Grid}
 use Rattle.fraction128.specs.declared.Side.{Side}
 use Rattle.fraction128.specs.declared.Side.TheVariants.{Lower, Upper}
-use Rattle.fraction128.specs.Grid.{column_at, next_step, move, after}
+use Rattle.fraction128.specs.Grid.{column_at}
 use Rattle.fraction128.specs.Lines.{Bounding, IsBoundedBy, IsResting, IsSoundGrid, IsRowIn, IsPivotIn, first_basis, exchanged, basis_along, is_leaf_sum}
 use Rattle.smt_meaning.specs.declared.clauses.Atom.{Atom}
 use Rattle.smt_meaning.specs.declared.clauses.Atom.TheVariants.{AtMost}
 use Rattle.smt_meaning.specs.CheckAtoms.{IsBoundOf}
-use Rattle.fraction128.specs.Chain.{TakesIn, ComesFrom, begins, taken, moved, GoesOn, left_by, PivotsLead}
-use Rattle.search_port.specs.declared.budget.Lemma.{Lemma}
+use Rattle.fraction128.specs.Chain.{ComesFrom, begins, taken, moved, GoesOn, left_by, PivotsLead}
 use Rattle.search_port.specs.declared.budget.Spent.{Spent}
 use Rattle.search_port.specs.declared.budget.Spent.TheVariants.{Learnt, Numbered, Pivot}
 use Rattle.search_port.specs.Pivots.{pivot_lines, pivots_of, EndsOtherwise, AreChained}

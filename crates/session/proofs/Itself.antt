@@ -27,18 +27,19 @@ use Rattle.scope_stack.specs.declared.answers.Assertion.{Assertion}
 use Rattle.scope_stack.specs.Carries.{IsAssumed, IsRefused, assumption, under}
 use Rattle.scope_stack.specs.Inside.{asserted_by, IsWithin}
 use Rattle.scope_stack.specs.Shown.{AreAsserted, IsLawful}
+use Rattle.goal_search.specs.declared.answer.Answer.{Answer}
 use Rattle.goal_search.specs.declared.minimum.LeastValue.{LeastValue}
 use Rattle.goal_search.specs.declared.minimum.LeastValue.TheVariants.{Minimum, Unsat, Unknown}
 use Rattle.goal_search.specs.declared.text.Ask.TheVariants.{Itself}
 use Rattle.goal_search.specs.Asks.{AsksAreAssumed}
+use Rattle.goal_search.specs.Checked.{WhereUnsat}
 use Rattle.goal_search.specs.Goals.{IsGoal, IsLeast}
+use Rattle.goal_search.proofs.Answered.{where_unsat}
+use Rattle.goal_search.proofs.Unders.{above, again_above, many_asserted, same_assertions, texts_count}
 use Rattle.session.specs.declared.above.Above.TheVariants.{Assumed as AssumedAbove}
-use Rattle.session.specs.declared.answer.Answer.{Answer}
 use Rattle.session.specs.Minimized.{AreAfter, IsAnswerByLeast, IsItselfAbove, IsMinimized, itself_assumed}
-use Rattle.session.specs.Refuted.{IsRefuted, WhereUnsat}
+use Rattle.session.specs.Refuted.{IsRefuted}
 use Rattle.session.proofs.Raising.{all_stay, AreAmong, of_right}
-use Rattle.session.proofs.Refutes.{where_unsat}
-use Rattle.session.proofs.Unders.{above, again_above, many_asserted, same_assertions, texts_count}
 
 -- ---- the answers
 

@@ -1,8 +1,6 @@
 pub mod Stacks
 pub mod Aboves
-pub mod Unders
 pub mod Storing
-pub mod Answered
 pub mod Prints
 pub mod Replies
 pub mod Values

@@ -21,9 +21,9 @@ use Rattle.smt_meaning.specs.MayReply.{Decided, MayCome}
 use Rattle.smt_meaning.specs.Term.{Tree}
 use Rattle.scope_stack.specs.declared.answers.Assertion.{Assertion}
 use Rattle.scope_stack.specs.Shown.{AreAsserted}
+use Rattle.goal_search.specs.Checked.{WhereUnsat}
 use Rattle.goal_search.specs.Tries.{AreCandidates}
 use Rattle.session.specs.Reduced.{IsHeldAmong}
-use Rattle.session.specs.Refuted.{WhereUnsat}
 use Rattle.session.proofs.CoreCandidates.{from_first, held_within, names_are_candidates, ranges_are_candidates}
 use Rattle.session.proofs.Replies.{core_given}
 

@@ -1,29 +1,21 @@
 -- What is known once a check is answered by unsat.
-use Rattle.std.proofs.Common.{◌≡◌, ℕ, ℤ, Bool, List, sym, subst, Option, Some, append-nil}
+use Rattle.std.proofs.Common.{◌≡◌, ℕ, ℤ, Bool, List, sym, subst, append-nil}
 use Rattle.smt_meaning.specs.declared.answers.Mode.{Mode}
-use Rattle.smt_meaning.specs.declared.answers.Mode.TheVariants.{Start, Assert, Sat as InSat, Unknown as InUnknown, Unsat as InUnsat}
 use Rattle.smt_meaning.specs.Stack.{Frame, HasNoModel}
 use Rattle.smt_meaning.specs.StackCommand.{Stack}
-use Rattle.theory_port.specs.declared.decider.Verdict.{Verdict}
-use Rattle.theory_port.specs.declared.decider.Verdict.TheVariants.{Unsat}
-use Rattle.theory_port.specs.Verdicts.{IsVerdict}
-use Rattle.session.specs.declared.above.Above.TheVariants.{Nothing}
-use Rattle.theory_port.specs.Found.{IsFound}
-use Rattle.session.specs.Refuted.{IsRefuted, WhereUnsat}
+use Rattle.scope_stack.specs.declared.answers.Assertion.{Assertion}
+use Rattle.goal_search.specs.declared.answer.Answer.{Answer}
+use Rattle.goal_search.specs.Assumed.{IsRefutedUnder}
+use Rattle.goal_search.specs.Checked.{IsChecked, WhereUnsat}
+use Rattle.goal_search.proofs.Answered.{where_unsat}
+use Rattle.session.specs.declared.above.Above.TheVariants.{Nothing, Assumed}
+use Rattle.session.specs.Refuted.{IsRefuted}
 
-pub where_unsat : (m : Mode) (P Q : Type 0) → (P → Q) → WhereUnsat m P → WhereUnsat m Q
-where_unsat Start P Q f h = tt
-where_unsat Assert P Q f h = tt
-where_unsat (InSat i) P Q f h = tt
-where_unsat (InUnknown r) P Q f h = tt
-where_unsat InUnsat P Q f h = f h
+alone_refuted : (old new : Stack) → new ≡ old → HasNoModel old.frames → IsRefuted new Nothing
+alone_refuted old new e h = subst (λ (s : Stack). IsRefuted s Nothing) (sym e) (record { none = subst HasNoModel (sym (append-nil old.frames)) h; again = tt })
 
-alone_refuted : (decided : List Frame → Bool) (old new : Stack) (workers : ℕ) (limit : ℤ) (v : Verdict) → IsFound workers decided old.trees old.frames limit (Some v) → new ≡ old → v ≡ Unsat → IsRefuted new Nothing
-alone_refuted decided old new workers limit v f e u =
-    subst (λ (s : Stack). IsRefuted s Nothing) (sym e)
-    (record { none = subst HasNoModel (sym (append-nil old.frames)) (subst (IsVerdict workers old.trees old.frames limit) u f.1); again = tt })
+pub check_refutes : (decided : List Frame → Bool) (workers : ℕ) (limit : ℤ) (old new : Stack) (a : Answer) → IsChecked decided workers limit old a → new ≡ old → WhereUnsat a.mode (IsRefuted new Nothing)
+check_refutes decided workers limit old new a k e = where_unsat a.mode (HasNoModel old.frames) (IsRefuted new Nothing) (alone_refuted old new e) k.refuted
 
-pub found_refutes : (decided : List Frame → Bool) (old new : Stack) (workers : ℕ) (limit : ℤ) (v : Verdict) (m : Mode) (o : Option Verdict) → IsFound workers decided old.trees old.frames limit o → o ≡ Some v → new ≡ old
-    → WhereUnsat m (v ≡ Unsat) → WhereUnsat m (IsRefuted new Nothing)
-found_refutes decided old new workers limit v m o f is e h =
-    where_unsat m (v ≡ Unsat) (IsRefuted new Nothing) (alone_refuted decided old new workers limit v (subst (IsFound workers decided old.trees old.frames limit) is f) e) h
+pub under_refutes : (m : Mode) (s : Stack) (xs : List Assertion) → WhereUnsat m (IsRefutedUnder s xs) → WhereUnsat m (IsRefuted s (Assumed xs))
+under_refutes m s xs h = where_unsat m (IsRefutedUnder s xs) (IsRefuted s (Assumed xs)) (λ k. record { none = k.none; again = k.again }) h

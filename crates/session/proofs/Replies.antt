@@ -5,7 +5,7 @@ use Rattle.smt_meaning.specs.declared.answers.Reply.{Reply}
 use Rattle.smt_meaning.specs.declared.replies.Kept.TheVariants.{Nothing, Core}
 use Rattle.smt_meaning.specs.declared.commands.Command.{Command}
 use Rattle.smt_meaning.specs.declared.commands.Command.TheVariants.{CheckSat, CheckSatAssuming, GetUnsatCore, GetUnsatAssumptions, Minimize}
-use Rattle.smt_meaning.specs.State.{State, Effect, denied, left_out, accepted, answered, checked, minimizes, reduces, effect, with_logic, in_logic, checks, assuming, check_assuming, minimizing, minimize, checked_frames, frame_of, get_value, kept_model, valued, provided, Candidates, is_unsat, get_unsat_core, get_unsat_assumptions}
+use Rattle.smt_meaning.specs.State.{State, Effect, denied, left_out, accepted, answered, checked, minimizes, reduces, effect, with_logic, in_logic, checks, assuming, check_assuming, minimizing, minimize, frame_of, get_value, kept_model, valued, provided, Candidates, is_unsat, get_unsat_core, get_unsat_assumptions}
 use Rattle.smt_meaning.specs.MayReply.{Decided, MayCome, MayDecide, MayMinimize, MayReply}
 use Rattle.smt_meaning.specs.Core.{IsCore, core_reply}
 use Rattle.smt_meaning.specs.declared.replies.Held.{Held}
@@ -20,20 +20,18 @@ use Rattle.smt_meaning.specs.declared.tokens.Token.{Token}
 use Rattle.smt_meaning.specs.Stack.{Frame}
 use Rattle.smt_meaning.specs.StackCommand.{Stack, assumes, judged, changed, stack_command}
 use Rattle.scope_stack.specs.Carries.{IsRefused, assumption, question}
-use Rattle.theory_port.specs.declared.decider.Verdict.{Verdict}
-use Rattle.theory_port.specs.Verdicts.{IsVerdict}
-use Rattle.session.specs.declared.answer.Answer.{Answer}
-use Rattle.session.specs.declared.assuming.Assumed.{Assumed}
+use Rattle.goal_search.specs.declared.answer.Answer.{Answer}
+use Rattle.goal_search.specs.declared.assuming.Assumed.{Assumed}
 use Rattle.smt_meaning.specs.declared.values.Table.{Table}
 use Rattle.smt_meaning.specs.declared.answers.Mode.TheVariants as In
 use Rattle.smt_meaning.specs.declared.options.OptionName.{OptionName}
 use Rattle.smt_meaning.specs.declared.options.OptionName.TheVariants as Named
-use Rattle.theory_port.specs.Found.{IsFound}
+use Rattle.goal_search.specs.Assumed.{IsAnswerTo, IsCheckedUnder, IsNotTakenUnder, ChecksUnder}
+use Rattle.goal_search.specs.Checked.{IsChecked}
 use Rattle.session.proofs.Aboves.{above_stays}
 use Rattle.session.specs.declared.above.Above.{Above}
 use Rattle.session.specs.declared.above.Above.TheVariants.{Assumed as AssumedAbove}
 use Rattle.session.specs.Above.{above_by, AreAbove, StandIn}
-use Rattle.session.specs.Assumed.{IsAnswerBy, IsAnswerTo, IsCheckedUnder, IsNotTakenUnder, ChecksUnder}
 use Rattle.session.specs.Effects.{Comes, ComesOfQuestion}
 use Rattle.session.specs.Minimized.{IsMinimizedUnder, minimization}
 use Rattle.smt_meaning.specs.Goal.{is_itself}
@@ -96,13 +94,10 @@ pub not_taken_so : (decided : Decided) (old : State) (stack : Stack) (above : Li
     → MayCome decided old (checks old stack above) Given.Unsupported Nothing new
 not_taken_so decided old stack above new left e = rw left (record { reply_is = refl; kept_is = refl; new_is = e })
 
--- what is found of the stack alone answers its check
-pub alone : (stack : Stack) (workers : ℕ) (limit : ℤ) (v : Verdict) (a : Answer) → IsVerdict workers stack.trees stack.frames limit v → IsAnswerBy v a → IsAnswerTo stack [] workers limit a
-alone stack workers limit v a h answers = λ s same none crew lim.
-    let frames : checked_frames s ≡ stack.frames = ap (λ (t : Stack). t.frames ++ s.above) same ∙ ap (λ fs. stack.frames ++ fs) none ∙ append-nil stack.frames in
-    answers s (subst (λ w. IsVerdict w s.stack.trees (checked_frames s) s.options.reproducible_resource_limit v) (sym crew)
-    (subst (λ l. IsVerdict workers s.stack.trees (checked_frames s) l v) (sym lim)
-    (subst (λ fs. IsVerdict workers s.stack.trees fs limit v) (sym frames) (subst (λ us. IsVerdict workers us stack.frames limit v) (sym (ap (λ (t : Stack). t.trees) same)) h))))
+-- what answers the stack alone answers its check
+pub alone : (decided : Decided) (workers : ℕ) (limit : ℤ) (stack : Stack) (a : Answer) → IsChecked decided workers limit stack a → IsAnswerTo stack [] workers limit a
+alone decided workers limit stack a k = λ s same none crew lim.
+    k.answer s (ap (λ (t : Stack). t.trees) same) (ap (λ (t : Stack). t.frames ++ s.above) same ∙ ap (λ fs. stack.frames ++ fs) none ∙ append-nil stack.frames) crew lim
 
 -- ---- checks under assumptions
 
@@ -136,14 +131,13 @@ refused_under_so decided old ts why stack reply new k e r =
 
 -- ---- what the functions come to
 
-pub check_so : (decided : Decided) (old mid : State) (stack found : Stack) (workers : ℕ) (limit : ℤ) (v : Verdict) (a : Answer) (o : Option Verdict) (new : State)
-    → stack ≡ old.stack → found ≡ stack → IsFound workers decided stack.trees stack.frames limit o → o ≡ Some v → IsAnswerBy v a → workers ≡ old.settings.workers → limit ≡ old.options.reproducible_resource_limit
+pub check_so : (decided : Decided) (old mid : State) (stack found : Stack) (workers : ℕ) (limit : ℤ) (a : Answer) (new : State)
+    → stack ≡ old.stack → found ≡ stack → IsChecked decided workers limit stack a → workers ≡ old.settings.workers → limit ≡ old.options.reproducible_resource_limit
     → mid ≡ record old { mode = In.Assert; stack = found; above = [] } → new ≡ record (with_logic mid) { mode = a.mode; above = [] }
     → MayCome decided old (checks old old.stack []) a.reply a.kept new
-check_so decided old mid stack found workers limit v a o new same stays is some answers crew lim m e =
-    let k : IsFound workers decided stack.trees stack.frames limit (Some v) = subst (IsFound workers decided stack.trees stack.frames limit) some is in
-    let taken : decided (old.stack.frames ++ []) ≡ true = ap decided (append-nil old.stack.frames ∙ ap (λ (s : Stack). s.frames) (sym same)) ∙ k.0 in
-    decided_so decided old old.stack [] workers limit a new taken (subst (λ (s : Stack). IsAnswerTo s [] workers limit a) same (alone stack workers limit v a k.1 answers)) (sym crew) (sym lim)
+check_so decided old mid stack found workers limit a new same stays k crew lim m e =
+    let taken : decided (old.stack.frames ++ []) ≡ true = ap decided (append-nil old.stack.frames ∙ ap (λ (s : Stack). s.frames) (sym same)) ∙ k.taken in
+    decided_so decided old old.stack [] workers limit a new taken (subst (λ (s : Stack). IsAnswerTo s [] workers limit a) same (alone decided workers limit stack a k)) (sym crew) (sym lim)
     (e ∙ ap (λ (s : State). record (with_logic s) { mode = a.mode; above = [] }) m ∙ entered old found In.Assert a.mode [] []
     ∙ ap (λ (s : Stack). record (with_logic old) { mode = a.mode; stack = s; above = [] }) (stays ∙ same))
 

@@ -6,8 +6,6 @@ pub mod Refuted
 pub mod Reduced
 pub mod Effects
 pub mod Heeded
-pub mod Assumed
-pub mod Under
 pub mod Minimized
 pub mod Stored
 pub mod LastCheck

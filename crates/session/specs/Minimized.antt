@@ -22,12 +22,13 @@ use Rattle.scope_stack.specs.Carries.{IsAsked, IsRefused, assumption}
 use Rattle.scope_stack.specs.Inside.{asserted_by}
 use Rattle.scope_stack.specs.Raised.{MayAssertAbove}
 use Rattle.scope_stack.specs.Shown.{AreAsserted}
+use Rattle.goal_search.specs.declared.answer.Answer.{Answer}
+use Rattle.goal_search.specs.declared.assuming.Assumed.{Assumed}
 use Rattle.goal_search.specs.declared.minimum.LeastValue.{LeastValue}
+use Rattle.goal_search.specs.Checked.{WhereUnsat}
 use Rattle.goal_search.specs.Goals.{IsGoal, IsLeast}
 use Rattle.session.specs.declared.above.Above.TheVariants.{Assumed as AssumedAbove}
-use Rattle.session.specs.declared.answer.Answer.{Answer}
-use Rattle.session.specs.declared.assuming.Assumed.{Assumed}
-use Rattle.session.specs.Refuted.{IsRefuted, WhereUnsat}
+use Rattle.session.specs.Refuted.{IsRefuted}
 
 -- ---- the goal
 

@@ -1,7 +1,5 @@
 -- What is known in the mode unsat: the levels of the last check have no model, and what stood above the stack may stand there again.
 use Rattle.std.specs.Prelude.{◌++◌}
-use Rattle.smt_meaning.specs.declared.answers.Mode.{Mode}
-use Rattle.smt_meaning.specs.declared.answers.Mode.TheVariants.{Start, Assert, Sat, Unknown, Unsat}
 use Rattle.smt_meaning.specs.Stack.{HasNoModel}
 use Rattle.smt_meaning.specs.StackCommand.{Stack}
 use Rattle.scope_stack.specs.Raised.{MayAssertAbove}
@@ -16,11 +14,3 @@ MayStandAgain s (Assumed xs) = MayAssertAbove xs s
 pub record IsRefuted (s : Stack) (a : Above) : Type 0 where
   pub none : HasNoModel (s.frames ++ above_by s.trees a)
   pub again : MayStandAgain s a
-
--- where the mode is unsat, this
-abbrev pub WhereUnsat : Mode → Type 0 → Type 0
-WhereUnsat Start P = Unit {0}
-WhereUnsat Assert P = Unit {0}
-WhereUnsat (Sat i) P = Unit {0}
-WhereUnsat (Unknown r) P = Unit {0}
-WhereUnsat Unsat P = P

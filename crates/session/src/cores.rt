@@ -12,9 +12,8 @@ ghost use Rattle.session.specs.Refuted.{IsRefuted};
 ghost use Rattle.session.specs.Reduced.{IsHeldAmong, IsReducedUnder};
 
 use crate::above::Above;
-use crate::assuming::copied;
 use crate::printed::texts_of;
-use goal_search::core;
+use goal_search::{copied, core};
 use scope_stack::{Assertion, ScopeStack};
 use smt_command::name_of_whole;
 use smt_meaning::{Bytes, Held, SExpr, Seq, Settings};

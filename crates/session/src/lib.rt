@@ -12,10 +12,8 @@
 #![tactic(auto)]
 
 mod above;
-mod answer;
 mod asked;
 mod assignment;
-mod assuming;
 mod carry;
 mod checks;
 mod cores;

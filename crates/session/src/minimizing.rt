@@ -2,16 +2,15 @@
 ghost use Rattle.std.specs.Prelude.{◌≡◌, ◌<◌, ◌≤◌, IfOk, OnErr, length};
 ghost use Rattle.smt_meaning.specs.Stack.{assertions_of, depth};
 ghost use Rattle.smt_meaning.specs.Term.{tree_at};
+ghost use Rattle.goal_search.specs.Checked.{WhereUnsat};
 ghost use Rattle.goal_search.specs.Goals.{IsGoal};
 ghost use Rattle.goal_search.specs.declared.minimum.LeastValue.TheVariants.{Unsat};
 ghost use Rattle.session.specs.Minimized.{AreAfter, AsksGoal, IsAnswerByLeast, IsItselfAbove, IsMinimized, MinimizesUnder, goal_refusal};
-ghost use Rattle.session.specs.Refuted.{WhereUnsat};
 
-use crate::answer::Answer;
-use crate::assuming::{Assumed, copied};
-use crate::checks::reason_of;
 use crate::negated::refusal_asked;
-use goal_search::{LeastValue, asks_are_assumed, itself, least};
+use goal_search::{
+    Answer, Assumed, LeastValue, asks_are_assumed, copied, itself, least, reason_of,
+};
 use scope_stack::{Assertion, ScopeStack, StackError};
 use smt_laws::judged_again;
 use smt_meaning::language::{Mode, Reply};

@@ -4,10 +4,8 @@ ghost use Rattle.smt_meaning.specs.State.{is_start as is_start_mode, is_unsat as
 ghost use Rattle.session.specs.LastCheck.{is_after_check as is_mode_after_check};
 
 use crate::above::{Above, into_assumptions};
-use crate::answer::answer_of;
 use crate::asked::values_of;
 use crate::assignment::named_truths;
-use crate::assuming::{Assumed, check_under};
 use crate::carry::{carry, refused, word};
 use crate::checks::in_force;
 use crate::cores::{core_of, named_places, names_of, places_from, texts_above, texts_held};
@@ -15,6 +13,7 @@ use crate::logic::Logic;
 use crate::minimizing::minimize_under;
 use crate::options::{option_value, options_at_start, start_option, with_setting};
 use crate::printed::{printed_functions, texts_of};
+use goal_search::{Assumed, check_under, checked};
 use model_eval::EvalError;
 use scope_stack::{Assertion, Carried, ScopeStack, Stack, StackError};
 use smt_meaning::language::{
@@ -23,7 +22,7 @@ use smt_meaning::language::{
 use smt_meaning::{Bytes, Held, Inner, Kept, SExpr, Seq, Settings};
 use std::alloc::{AllocError, Global};
 use std::marker::Model;
-use theory_port::{Decider, found};
+use theory_port::Decider;
 
 /// The state of a run: the settings of the words, the logic once it is set, the mode with the model that is kept, the options, the stack, and what stood above it at the last check.
 #[derive(Drop)]
@@ -42,7 +41,8 @@ impl Model for Session {
     ghost use Rattle.session.specs.Logics.{named};
     ghost use Rattle.session.specs.StateCode.{coded_state};
     ghost use Rattle.session.specs.Above.{above_by, AreAbove};
-    ghost use Rattle.session.specs.Refuted.{IsRefuted, WhereUnsat};
+    ghost use Rattle.goal_search.specs.Checked.{WhereUnsat};
+    ghost use Rattle.session.specs.Refuted.{IsRefuted};
 
     ghost Value = { State };
 
@@ -86,7 +86,8 @@ impl Session {
     ghost use Rattle.smt_meaning.specs.MayReply.{MayReply, MayCome, success};
     ghost use Rattle.smt_meaning.specs.declared.commands.Command.TheVariants.{Exit, Reset, ResetAssertions, CheckSatAssuming, Minimize};
     ghost use Rattle.session.specs.Above.{above_by, AreAbove};
-    ghost use Rattle.session.specs.Refuted.{IsRefuted, WhereUnsat};
+    ghost use Rattle.goal_search.specs.Checked.{WhereUnsat};
+    ghost use Rattle.session.specs.Refuted.{IsRefuted};
     ghost use Rattle.session.specs.LastCheck.{is_after_check, IsOfLastCheck};
 
     /// The state at the start of a run. It takes no memory.
@@ -508,10 +509,9 @@ impl Session {
         ensures err { OnErr result (self.new ≡ self.old) }
     {
         let settings = in_force(&self.settings, &self.options);
-        let Some(verdict) = found(alloc, decider, &settings, &mut self.stack)? else {
+        let Some(answer) = checked(alloc, decider, &settings, &mut self.stack)? else {
             return Ok((Reply::Unsupported, Kept::Nothing));
         };
-        let answer = answer_of(alloc, verdict)?;
         self.mode = Mode::Assert;
         self.above = Above::Nothing;
         self.enter(answer.mode, Above::Nothing);

@@ -220,7 +220,7 @@ abbrev asserts : Tree → List Frame
 asserts t = record { declared = whole_constant ∷ []; asserted = record { text = []; term = t } ∷ [] } ∷ []
 
 -- a row of the sixth term leaves it
-row_leaves : Shows far_trees (asserts far_even) (pos 0) 0 [] (Range (Coefficient 5))
+row_leaves : Shows far_trees (asserts far_even) (pos 0) [] (Range (Coefficient 5))
 row_leaves = record {
   sums = [];
   known = no_sums _;

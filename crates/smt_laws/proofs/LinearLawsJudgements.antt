@@ -3,7 +3,7 @@ use Rattle.std.proofs.Common.{◌≡◌, ◌∙◌, ℕ, ◌+◌, ◌<◌, ◌�
 use Rattle.smt_meaning.specs.declared.values.Sort.{Sort}
 use Rattle.smt_meaning.specs.Declaration.{Declaration, Body}
 use Rattle.smt_meaning.specs.Term.{Tree}
-use Rattle.smt_meaning.specs.Sorts.{Scope, refused, ◌>>◌, note, found, declare, declare_in, most_symbols, Typed, Rules}
+use Rattle.smt_meaning.specs.Sorts.{Scope, ◌>>◌, note, found, declare, declare_in, most_symbols, Typed, Rules}
 use Rattle.smt_laws.proofs.Among.{Among, kept_with_all, among_with_all}
 use Rattle.smt_laws.proofs.Each.{Each, each_with_all}
 use Rattle.smt_laws.proofs.StepLogic.{Logic, Ends, Gives, Nothing}

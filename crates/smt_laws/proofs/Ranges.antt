@@ -115,7 +115,7 @@ abbrev trees_past : List Tree
 trees_past = numeral (pos 2) ∷ numeral greatest_number ∷ doubled ∷ tree_x ∷ compared ∷ []
 
 -- the product's coefficient leaves the range
-product_leaves : Shows trees_past (asserts compared) (pos 0) 0 [] (Range (Coefficient 2))
+product_leaves : Shows trees_past (asserts compared) (pos 0) [] (Range (Coefficient 2))
 product_leaves = record {
   sums = [];
   known = no_sums _;

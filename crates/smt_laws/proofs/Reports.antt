@@ -55,7 +55,7 @@ abbrev both_asserted : State
 both_asserted = both_asserted_by 1
 
 abbrev ShownHere : Report → Type 0
-ShownHere r = Shows both_asserted.stack.trees both_asserted.stack.frames (pos 1) r.worker r.branches r.cause
+ShownHere r = Shows both_asserted.stack.trees both_asserted.stack.frames (pos 1) r.branches r.cause
 
 -- ---- memory
 
@@ -154,8 +154,8 @@ pub no_sums : (Known : List Summand → Type 0) → AreSums Known []
 no_sums Known = record { apart = λ i j d l m. absurd (omega (arith, m)); filled = All-nil _; known = All-nil _ }
 
 -- that two Bools are one is no unit, though it is an atom of the check
-equality_of_bools : (limit : ℤ) (w : ℕ) → AreUnits both_asserted.stack.trees both_asserted.stack.frames [] limit w (Numbered p_is_q ∷ []) → ⊥
-equality_of_bools limit w u = int_false ((u [] [] (Numbered p_is_q) refl).of_integers 0 1 Truths refl refl)
+equality_of_bools : (limit : ℤ) → AreUnits both_asserted.stack.trees both_asserted.stack.frames [] limit (Numbered p_is_q ∷ []) → ⊥
+equality_of_bools limit u = int_false ((u [] [] (Numbered p_is_q) refl).of_integers 0 1 Truths refl refl)
   where
     int_false : Truths ≡ Ints → ⊥
     int_false e = cc
@@ -197,9 +197,9 @@ no_equality_of_both c = elim (in_cases (Truth 2) x_is_y (Truth 3 ∷ []) c) [
 ]
 
 -- that x is y is an atom of the check, which wasn't numbered at its start
-one_unit : AreUnits holds_of_both.stack.trees holds_of_both.stack.frames [] (pos 1) 0 (Numbered x_is_y ∷ [])
+one_unit : AreUnits holds_of_both.stack.trees holds_of_both.stack.frames [] (pos 1) (Numbered x_is_y ∷ [])
 one_unit =
-    one_more_unit holds_of_both.stack.trees holds_of_both.stack.frames [] (pos 1) 0 [] (Numbered x_is_y) (no_units holds_of_both.stack.trees holds_of_both.stack.frames [] (pos 1) 0)
+    one_more_unit holds_of_both.stack.trees holds_of_both.stack.frames [] (pos 1) [] (Numbered x_is_y) (no_units holds_of_both.stack.trees holds_of_both.stack.frames [] (pos 1))
     (
     record {
       of_check = inr (inl (
@@ -225,7 +225,7 @@ one_unit =
         cc
 
 abbrev ShownOfBoth : Report → Type 0
-ShownOfBoth r = Shows holds_of_both.stack.trees holds_of_both.stack.frames (pos 1) r.worker r.branches r.cause
+ShownOfBoth r = Shows holds_of_both.stack.trees holds_of_both.stack.frames (pos 1) r.branches r.cause
 
 units_may_end : MayReply every holds_of_both CheckSat Unknown (Reports (without_units (Numbered x_is_y ∷ []) ∷ [])) (record holds_of_both { mode = In.Unknown Incomplete })
 unfolding MayReply effect

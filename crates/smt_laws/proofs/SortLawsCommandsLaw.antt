@@ -1,5 +1,5 @@
 -- Commands keep the signature's functions usable, and assert terms of the sort Bool.
-use Rattle.std.proofs.Common.{◌≡◌, ℕ, ◌+◌, ◌<◌, List, [], ◌∷◌, ◌++◌, All, length, sym, subst, ◌∙◌, refl, Bool, true, false, Option, Some, None, append_assoc}
+use Rattle.std.proofs.Common.{◌≡◌, ℕ, ◌+◌, ◌<◌, List, [], ◌∷◌, ◌++◌, All, length, sym, subst, ◌∙◌, refl, true, false, Option, Some, None, append_assoc}
 use Rattle.std.specs.Prelude.{ℤ, codes}
 use Rattle.std.proofs.lemmas.List.{length-append}
 use Rattle.smt_meaning.specs.declared.values.Sort.{Sort}

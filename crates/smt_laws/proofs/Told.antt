@@ -26,7 +26,7 @@ use Rattle.smt_meaning.specs.Sorts.{Outcome, done, refused, Judging}
 use Rattle.smt_meaning.specs.StackCommand.{Change, declares, asserts, pushes, pops, clears, begins_again, is_unsupported, asks, assumes, sets, stack_command, judged, changed}
 use Rattle.smt_meaning.specs.Command.{command}
 use Rattle.smt_meaning.specs.State
-use Rattle.smt_meaning.specs.State.{checked_frames, Effect, denied, left_out, accepted, answered, checked, minimizes, reduces, named, assumed, minimize, minimizing, is_unsat, effect, provided, set_logic, set_option_in, with_option, start_option, reason_unknown, get_info, stack_effect, on_stack, get_value, judged_values, valued, get_model, get_assertions, get_assignment, kept_model, check_assuming, assuming, logics, is_start, asserting, with_logic, all_fit, term_values, printed_functions, named_truths, named_fit, texts_of}
+use Rattle.smt_meaning.specs.State.{checked_frames, Effect, denied, left_out, accepted, answered, checked, minimizes, reduces, named, assumed, minimize, minimizing, is_unsat, effect, provided, set_logic, set_option_in, with_option, start_option, reason_unknown, get_info, stack_effect, on_stack, get_value, judged_values, valued, get_model, get_assignment, kept_model, check_assuming, assuming, logics, is_start, asserting, with_logic, all_fit, term_values, printed_functions, named_truths, named_fit, texts_of}
 use Rattle.smt_meaning.specs.MayReply.{Decided, IsExactly, MayCome, MayDecide, MayMinimize, MayReply, MayReplyTo, Replies, success}
 use Rattle.smt_laws.specs.LanguageLaws.{HasOneReply, ChangesNothing, is_search}
 

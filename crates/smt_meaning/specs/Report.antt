@@ -1,5 +1,5 @@
 -- What a worker shows that ended a check without an answer: the units that it spent, each of which did something new, or where a number left the range.
-use Rattle.std.specs.Prelude.{◌≡◌, ◌≢◌, ◌⊎◌, ℕ, zero, suc, ◌^◌, ◌≤◌, min, Bool, true, false, not, List, [], ◌∷◌, ◌++◌, map, length, ℤ, pos, int_le, unsigned_abs, All, AllPairs, Contains, Option, Some, None, if◌then◌else◌}
+use Rattle.std.specs.Prelude.{◌≡◌, ◌≢◌, ◌⊎◌, ℕ, ◌^◌, min, Bool, true, false, not, List, [], ◌∷◌, ◌++◌, map, length, ℤ, pos, int_le, unsigned_abs, All, AllPairs, Contains, Option, Some, None, if◌then◌else◌}
 use Rattle.std.specs.List.{list_any, range_with_len}
 use Rattle.std.proofs.Common.{refl, subst, inl, inr}
 use Rattle.smt_meaning.specs.declared.options.UnknownReason.{UnknownReason}
@@ -54,20 +54,14 @@ pub record IsAsserted (ts : List Tree) (frames : List Frame) (ls : List Literal)
   pub asserted : Contains (assertions_of frames) assertion
   pub same : ls ≡ record { atom = Truth (place_of assertion ts); positive = true } ∷ []
 
--- the worker 0 keeps each clause that it learns, and of those that another learns the ones of at most 8 literals count
-abbrev pub IsKept : ℕ → List Literal → Type 0
-IsKept zero ls = Unit {0}
-IsKept (suc w) ls = length ls ≤ 8
-
--- a clause that was learnt before, and counts
-pub record IsEarlier (worker : ℕ) (earlier : List Spent) (ls : List Literal) : Type 0 where
+-- a clause that was learnt before
+pub record IsEarlier (earlier : List Spent) (ls : List Literal) : Type 0 where
   pub clause : Clause
   pub learnt : Contains earlier (Learnt clause)
-  pub kept : IsKept worker ls
   pub same : ls ≡ clause.literals
 
-abbrev pub IsGiven : List Tree → List Frame → ℕ → List Spent → List Literal → Type 0
-IsGiven ts frames worker earlier ls = IsPartClause ts frames ls ⊎ IsAsserted ts frames ls ⊎ IsEarlier worker earlier ls
+abbrev pub IsGiven : List Tree → List Frame → List Spent → List Literal → Type 0
+IsGiven ts frames earlier ls = IsPartClause ts frames ls ⊎ IsAsserted ts frames ls ⊎ IsEarlier earlier ls
 
 -- ---- units
 
@@ -79,17 +73,17 @@ is_unlimited limit = int_le limit (pos 0)
 abbrev pub most_units : ℤ → ℕ
 most_units limit = if is_unlimited limit then 2 ^ 40 else min (unsigned_abs limit) (2 ^ 40)
 
--- where there is no limit, what the worker 0 learns costs no unit
-abbrev pub LearningCosts : ℕ → ℤ → Type 0
-LearningCosts worker limit = worker ≡ 0 → is_unlimited limit ≡ false
+-- where there is no limit, neither learning nor a pivot costs a unit
+abbrev pub WorkCosts : ℤ → Type 0
+WorkCosts limit = is_unlimited limit ≡ false
 
 -- a clause that follows, and that no clauses among those given force
-pub record IsLearnt (ts : List Tree) (frames : List Frame) (branches : List Line) (limit : ℤ) (worker : ℕ) (earlier : List Spent) (c : Clause) : Type 0 where
-  pub costs : LearningCosts worker limit
+pub record IsLearnt (ts : List Tree) (frames : List Frame) (branches : List Line) (limit : ℤ) (earlier : List Spent) (c : Clause) : Type 0 where
+  pub costs : WorkCosts limit
   pub follows : Follows ts frames c.level c
   pub of_check : All (λ (l : Literal). IsCheckAtom ts frames branches l.atom) c.literals
   pub no_two : AllPairs (λ (l m : Literal). l.atom ≢ m.atom) c.literals
-  pub unforced : (clauses : List (List Literal)) → All (IsGiven ts frames worker earlier) clauses → Forces negated clauses c.literals → ⊥
+  pub unforced : (clauses : List (List Literal)) → All (IsGiven ts frames earlier) clauses → Forces negated clauses c.literals → ⊥
 
 -- an atom of the check that isn't one of the stack, and wasn't numbered before; of equalities one of two Ints alone
 pub record IsNumbered (ts : List Tree) (frames : List Frame) (branches : List Line) (earlier : List Spent) (a : Atom) : Type 0 where
@@ -98,10 +92,6 @@ pub record IsNumbered (ts : List Tree) (frames : List Frame) (branches : List Li
   pub of_integers : (i j : ℕ) (s : Sort) → a ≡ Same i j → tree_sort (signature_of frames) (tree_at ts i) ≡ Some s → s ≡ Ints
   pub new : Contains earlier (Numbered a) → ⊥
 
--- without a limit a pivot is no unit
-abbrev pub PivotCosts : ℤ → Type 0
-PivotCosts limit = is_unlimited limit ≡ false
-
 -- the pivots are by Bland's rule, each from the basis that those before it left; and where no other unit is between, from the grid that the one before it left, which is `here`, by what is taken in and moved
 abbrev pub AreChained : List (List GridSummand) → Bounding → (ℕ → Bool) → Option Grid → List Spent → Type 0
 AreChained sums B is here [] = Unit {0}
@@ -109,15 +99,15 @@ AreChained sums B is here (Learnt c ∷ us) = AreChained sums B is None us
 AreChained sums B is here (Numbered a ∷ us) = AreChained sums B is None us
 AreChained sums B is here (Pivot l ∷ us) = (p : IsPivotIn sums B is l) × GoesOn here (Some p.grid) × AreChained sums B (exchanged l is) (Some (left_by p)) us
 
-abbrev pub IsUnit : List Tree → List Frame → List Line → ℤ → ℕ → List Spent → Spent → Type 0
-IsUnit ts frames branches limit worker earlier (Learnt c) = IsLearnt ts frames branches limit worker earlier c
-IsUnit ts frames branches limit worker earlier (Numbered a) = IsNumbered ts frames branches earlier a
-IsUnit ts frames branches limit worker earlier (Pivot l) = PivotCosts limit
+abbrev pub IsUnit : List Tree → List Frame → List Line → ℤ → List Spent → Spent → Type 0
+IsUnit ts frames branches limit earlier (Learnt c) = IsLearnt ts frames branches limit earlier c
+IsUnit ts frames branches limit earlier (Numbered a) = IsNumbered ts frames branches earlier a
+IsUnit ts frames branches limit earlier (Pivot l) = WorkCosts limit
 
 -- each unit is one after those before it
-abbrev pub AreUnits : List Tree → List Frame → List Line → ℤ → ℕ → List Spent → Type 0
-AreUnits ts frames branches limit worker us =
-    (before after : List Spent) (u : Spent) → us ≡ before ++ u ∷ after → IsUnit ts frames branches limit worker before u
+abbrev pub AreUnits : List Tree → List Frame → List Line → ℤ → List Spent → Type 0
+AreUnits ts frames branches limit us =
+    (before after : List Spent) (u : Spent) → us ≡ before ++ u ∷ after → IsUnit ts frames branches limit before u
 
 -- a list that ends in one more, cut before one of its items: at the last one, or before it
 last_or_before : {X : Type 0} (us before after : List X) (u v : X) → us ++ u ∷ [] ≡ before ++ v ∷ after
@@ -130,27 +120,27 @@ last_or_before (x ∷ us) (b ∷ before) after u v e =
     let first : x ≡ b = cc in let rest : us ++ u ∷ [] ≡ before ++ v ∷ after = cc in
     elim (last_or_before us before after u v rest) [ inl (same, last) ↦ inl (cc, last) | inr (more, same) ↦ inr (more, cc) ]
 
-pub no_units : (ts : List Tree) (frames : List Frame) (branches : List Line) (limit : ℤ) (worker : ℕ) → AreUnits ts frames branches limit worker []
-no_units ts frames branches limit worker [] after u e = cc
-no_units ts frames branches limit worker (b ∷ before) after u e = cc
+pub no_units : (ts : List Tree) (frames : List Frame) (branches : List Line) (limit : ℤ) → AreUnits ts frames branches limit []
+no_units ts frames branches limit [] after u e = cc
+no_units ts frames branches limit (b ∷ before) after u e = cc
 
-pub one_more_unit : (ts : List Tree) (frames : List Frame) (branches : List Line) (limit : ℤ) (worker : ℕ) (us : List Spent) (u : Spent)
-    → AreUnits ts frames branches limit worker us → IsUnit ts frames branches limit worker us u → AreUnits ts frames branches limit worker (us ++ u ∷ [])
-one_more_unit ts frames branches limit worker us u each one before after v e =
+pub one_more_unit : (ts : List Tree) (frames : List Frame) (branches : List Line) (limit : ℤ) (us : List Spent) (u : Spent)
+    → AreUnits ts frames branches limit us → IsUnit ts frames branches limit us u → AreUnits ts frames branches limit (us ++ u ∷ [])
+one_more_unit ts frames branches limit us u each one before after v e =
     elim (last_or_before us before after u v e) [
-      | inl (same, last) ↦ subst (λ x. IsUnit ts frames branches limit worker before x) last (subst (λ xs. IsUnit ts frames branches limit worker xs u) same one)
+      | inl (same, last) ↦ subst (λ x. IsUnit ts frames branches limit before x) last (subst (λ xs. IsUnit ts frames branches limit xs u) same one)
       | inr (rest, same) ↦ each before rest v same
     ]
 
 -- ---- reports
 
 -- these branches and units are those of a check whose variables have one table of sums
-pub record AreAllSpent (ts : List Tree) (frames : List Frame) (limit : ℤ) (worker : ℕ) (branches : List Line) (us : List Spent) : Type 0 where
+pub record AreAllSpent (ts : List Tree) (frames : List Frame) (limit : ℤ) (branches : List Line) (us : List Spent) : Type 0 where
   pub count : length us ≡ most_units limit
   pub sums : List (List GridSummand)
   pub known : AreCheckSums ts frames sums
   pub are_branches : AreBranches ts frames sums branches
-  pub units : AreUnits ts frames branches limit worker us
+  pub units : AreUnits ts frames branches limit us
   pub chained : AreChained sums (IsBoundOf (IsCheckAtom ts frames branches)) (first_basis sums) None us
 
 -- so are these branches and what leaves the range
@@ -161,15 +151,15 @@ pub record IsPastRange (ts : List Tree) (frames : List Frame) (branches : List L
   pub leaves : LeavesRange ts frames sums (IsCheckAtom ts frames branches) seen
 
 -- all units are spent, a number left the range, or memory was wanting
-abbrev pub Shows : List Tree → List Frame → ℤ → ℕ → List Line → Cause → Type 0
-Shows ts frames limit worker branches (Units us) = AreAllSpent ts frames limit worker branches us
-Shows ts frames limit worker branches (Range seen) = IsPastRange ts frames branches seen
-Shows ts frames limit worker branches Memory = Unit {0}
+abbrev pub Shows : List Tree → List Frame → ℤ → List Line → Cause → Type 0
+Shows ts frames limit branches (Units us) = AreAllSpent ts frames limit branches us
+Shows ts frames limit branches (Range seen) = IsPastRange ts frames branches seen
+Shows ts frames limit branches Memory = Unit {0}
 
 -- one report of each worker, in order from 0
 pub record AreReports (workers : ℕ) (ts : List Tree) (frames : List Frame) (limit : ℤ) (rs : List Report) : Type 0 where
   pub one_each : map (λ (r : Report). r.worker) rs ≡ range_with_len 0 workers
-  pub shown : All (λ (r : Report). Shows ts frames limit r.worker r.branches r.cause) rs
+  pub shown : All (λ (r : Report). Shows ts frames limit r.branches r.cause) rs
 
 -- ---- the reason of an unknown answer
 

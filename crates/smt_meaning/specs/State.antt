@@ -41,7 +41,7 @@ use Rattle.smt_meaning.specs.Interpretation.{meaning}
 use Rattle.smt_meaning.specs.Sorts.{Outcome, done, refused, Judging, Typed}
 use Rattle.smt_meaning.specs.Stack.{Assertion, Frame, signature_of, depth}
 use Rattle.smt_meaning.specs.Goal.{is_itself, goal_of}
-use Rattle.smt_meaning.specs.StackCommand.{Stack, Change, declares, asserts, pushes, pops, clears, begins_again, is_unsupported, asks, assumes, sets, stack_command, scope_of, judged, changed}
+use Rattle.smt_meaning.specs.StackCommand.{Stack, Change, clears, begins_again, is_unsupported, asks, assumes, sets, stack_command, scope_of, judged, changed}
 use Rattle.smt_meaning.specs.StackCommand as Stacks
 
 -- the settings of the words, the logic once it is set, the mode with the model that is kept, the options, the stack, and what stood above it at the

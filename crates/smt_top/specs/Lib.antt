@@ -2,5 +2,3 @@ pub mod Ledgers
 pub mod Progress
 pub mod Ended
 pub use Rattle.portfolio.specs.Taken
-pub mod Words
-pub mod Program

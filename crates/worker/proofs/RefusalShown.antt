@@ -33,10 +33,10 @@ no_sums Known = record { apart = λ i j d l m. absurd (omega (arith, m)); filled
 without_variables : (s : Stack) (seen : RangeSeen) → LeavesRange s.trees s.frames [] (IsCheckAtom s.trees s.frames []) seen → IsPastRange s.trees s.frames [] seen
 without_variables s seen h = record { sums = []; known = no_sums _; are_branches = tt; leaves = h }
 
-pub shown : RefusedTermLeavesRange → LawfulPairsLeaveRange → LawfulLimitsLeaveRange → (s : Stack) (limit : ℤ) (w : ℕ) (e : Refusal) → IsLawful s → All (λ (t : Tree). IsTrue (numerals_fit t)) s.trees → IsRefused s e
-    → Shows s.trees s.frames limit w [] (cause_of e)
-shown term pairs limits s limit w (Term place) lawful numerals r = without_variables s (Coefficient place) (term s place lawful r)
-shown term pairs limits s limit w (Pair part o) lawful numerals r =
+pub shown : RefusedTermLeavesRange → LawfulPairsLeaveRange → LawfulLimitsLeaveRange → (s : Stack) (limit : ℤ) (e : Refusal) → IsLawful s → All (λ (t : Tree). IsTrue (numerals_fit t)) s.trees → IsRefused s e
+    → Shows s.trees s.frames limit [] (cause_of e)
+shown term pairs limits s limit (Term place) lawful numerals r = without_variables s (Coefficient place) (term s place lawful r)
+shown term pairs limits s limit (Pair part o) lawful numerals r =
     without_variables s (pair_seen part o.sense o.lesser o.greater) (pair_shown s part o.sense o.lesser o.greater (pairs s part o lawful numerals r))
-shown term pairs limits s limit w (Limit part) lawful numerals r = without_variables s (Coefficient part) (limits s part lawful numerals r)
-shown term pairs limits s limit w Memory lawful numerals r = tt
+shown term pairs limits s limit (Limit part) lawful numerals r = without_variables s (Coefficient part) (limits s part lawful numerals r)
+shown term pairs limits s limit Memory lawful numerals r = tt

@@ -1,5 +1,5 @@
 -- What a search over a stack shows where it ends without an answer.
-use Rattle.std.proofs.Common.{◌≡◌, inl, inr, ◌⊎◌, ℕ, suc, ◌+◌, ◌<◌, Bool, true, false, not, ◌||◌, List, [], ◌∷◌, ◌++◌, map, length, All, Contains, get_or, subst, sym, ap, ◌∙◌, arith, refl}
+use Rattle.std.proofs.Common.{◌≡◌, inl, inr, ◌⊎◌, ℕ, suc, ◌+◌, ◌<◌, Bool, true, false, not, ◌||◌, ◌&&◌, List, [], ◌∷◌, ◌++◌, map, length, All, Contains, get_or, subst, sym, ap, ◌∙◌, arith, refl}
 use Rattle.std.specs.Prelude.{ℤ, Option, Some, None, IfSome}
 use Rattle.std.specs.List.{range_with_len}
 use Rattle.std.proofs.lemmas.List.{append-nil, length-map, length-append}
@@ -46,7 +46,7 @@ use Rattle.search_port.proofs.Forcing.{Split, all_of, split}
 use Rattle.worker.proofs.Lists.{IsAfter, in_order, at_any, first_or_later, front_in, in_middle}
 use Rattle.worker.proofs.Numbers.{same_front}
 use Rattle.worker.proofs.SameStack.{check_atom_by, branches_by, range_by, sums_by}
-use Rattle.worker.proofs.Units.{IsLast, IsOfWorker, learnt, newly_numbered, new_at, new_front, numbers_of_both}
+use Rattle.worker.proofs.Units.{IsLast, learnt, newly_numbered, new_at, new_front, numbers_of_both}
 
 -- the laws that are cited
 pub record Laws : Type 0 where
@@ -55,25 +55,45 @@ pub record Laws : Type 0 where
   pub in_turn : ForcesInTurn
   pub flatly : FlatSaysTheSame
 
--- how a budget of this limit begins
-pub record IsBudget (limit : ℤ) (forgets : Bool) (b : Spending) : Type 0 where
-  pub units : b.units ≡ []
-  pub limit_is : b.limit ≡ most_units limit
-  pub counts : b.counts_learnt ≡ (not (is_unlimited limit) || forgets)
-  pub keeps : b.keeps_lines ≡ not (is_unlimited limit)
-
-pub budget_of : (limit : ℤ) (b : Spending) (k share : ℕ) (v forgets : Bool) → b ≡ record { units = []; limit = k; bound = k; counts_learnt = v || forgets; keeps_lines = v; share = share; short = [] }
-    → k ≡ most_units limit → v ≡ not (is_unlimited limit) → IsBudget limit forgets b
-budget_of limit b k share v forgets e most counts = record {
-  units = ap (λ (x : Spending). x.units) e;
-  limit_is = ap (λ (x : Spending). x.limit) e ∙ most;
-  counts = ap (λ (x : Spending). x.counts_learnt) e ∙ ap (λ c. c || forgets) counts;
-  keeps = ap (λ (x : Spending). x.keeps_lines) e ∙ counts;
-}
-
 only_first : (a b : Bool) → b ≡ false → (a || b) ≡ a
 only_first true b e = refl
 only_first false b e = e
+
+-- a worker that may not forget doesn't
+pub kept_all : (limit : ℤ) (v later : Bool) → v ≡ not (is_unlimited limit) → (is_unlimited limit && later) ≡ false → (later && not v) ≡ false
+kept_all limit v later e kept = ap (λ x. later && not x) e ∙ by (is_unlimited limit) later kept
+  where
+    by : (a b : Bool) → (a && b) ≡ false → (b && not (not a)) ≡ false
+    by true true z = absurd (cc)
+    by true false z = refl
+    by false true z = refl
+    by false false z = refl
+
+-- and one that doesn't may not
+pub may_not : (limit : ℤ) (v later : Bool) → v ≡ not (is_unlimited limit) → (later && not v) ≡ false → (is_unlimited limit && later) ≡ false
+may_not limit v later e kept = by (is_unlimited limit) later (ap (λ x. later && not x) (sym e) ∙ kept)
+  where
+    by : (a b : Bool) → (b && not (not a)) ≡ false → (a && b) ≡ false
+    by true true z = absurd (cc)
+    by true false z = refl
+    by false true z = refl
+    by false false z = refl
+
+-- how a budget of this limit begins where nothing is forgotten
+pub record IsBudget (limit : ℤ) (b : Spending) : Type 0 where
+  pub units : b.units ≡ []
+  pub limit_is : b.limit ≡ most_units limit
+  pub counts : b.counts_learnt ≡ not (is_unlimited limit)
+  pub keeps : b.keeps_lines ≡ not (is_unlimited limit)
+
+pub budget_of : (limit : ℤ) (b : Spending) (k share : ℕ) (v forgets : Bool) → b ≡ record { units = []; limit = k; bound = k; counts_learnt = v || forgets; keeps_lines = v; share = share; short = [] }
+    → forgets ≡ false → k ≡ most_units limit → v ≡ not (is_unlimited limit) → IsBudget limit b
+budget_of limit b k share v forgets e kept most counts = record {
+  units = ap (λ (x : Spending). x.units) e;
+  limit_is = ap (λ (x : Spending). x.limit) e ∙ most;
+  counts = ap (λ (x : Spending). x.counts_learnt) e ∙ (only_first v forgets kept ∙ counts);
+  keeps = ap (λ (x : Spending). x.keeps_lines) e ∙ counts;
+}
 
 -- ---- what a theory shows, by the levels of the stack
 
@@ -210,9 +230,9 @@ has_number (Numbered n ∷ us) m h =
     number_is : Numbered n ≡ Numbered m → n ≡ m
     number_is e = ap number_of e
 
-module _ (w : ℕ) (forgets : Bool) (of : IsOfWorker w forgets) (laws : Laws) (s : Stack) (stored new : Stored) (lawful : IsLawful s) (limit : ℤ) (t u : TheoryState) (b c : Spending) (first : IsFirst s t.reading.table stored)
-    (all : HasStackAtoms s t.reading.table) (begins : t.reading ≡ reading_of s t.reading.table) (unpivoted : ArePivots t []) (budget : IsBudget limit forgets b)
-    (run : Searches forgets stored new t u b c) (chains : ChainsPivots t u b c) where
+module _ (laws : Laws) (s : Stack) (stored new : Stored) (lawful : IsLawful s) (limit : ℤ) (t u : TheoryState) (b c : Spending) (first : IsFirst s t.reading.table stored)
+    (all : HasStackAtoms s t.reading.table) (begins : t.reading ≡ reading_of s t.reading.table) (unpivoted : ArePivots t []) (budget : IsBudget limit b)
+    (run : Searches false stored new t u b c) (chains : ChainsPivots t u b c) where
   abbrev more : List Atom
   more = run.turns.grown.more
 
@@ -238,7 +258,7 @@ module _ (w : ℕ) (forgets : Bool) (of : IsOfWorker w forgets) (laws : Laws) (s
 
   are_pivots : (v : Bool) → is_unlimited limit ≡ v → IsPivotList v
   are_pivots true e = run.turns.spends.no_pivots (budget.keeps ∙ ap not e) (subst (λ (us : List Spent). All IsNoPivot us) (sym budget.units) (All-nil IsNoPivot))
-  are_pivots false e = chains (budget.counts ∙ ap (λ v. not v || forgets) e) (budget.keeps ∙ ap not e) (subst (λ (us : List Spent). ArePivots t us) (sym budget.units) unpivoted)
+  are_pivots false e = chains (budget.counts ∙ ap not e) (budget.keeps ∙ ap not e) (subst (λ (us : List Spent). ArePivots t us) (sym budget.units) unpivoted)
 
   module _ (x : Showing) (shown : IsShowing (by_levels s u) x) where
     last : IsLast s x.branches stored u.reading
@@ -255,30 +275,30 @@ module _ (w : ℕ) (forgets : Bool) (of : IsOfWorker w forgets) (laws : Laws) (s
     }
 
     one_unit : (before after : List Spent) (y : Spent) → c.units ≡ before ++ y ∷ after
-        → IsUnit s.trees s.frames x.branches limit w (map (unit_of u.reading.table (depth s.frames)) before) (unit_of u.reading.table (depth s.frames) y)
+        → IsUnit s.trees s.frames x.branches limit (map (unit_of u.reading.table (depth s.frames)) before) (unit_of u.reading.table (depth s.frames) y)
     one_unit before after (Numbered n) e =
         let here : Contains c.units (Numbered n) = subst (λ us. Contains us (Numbered n)) (sym e) (in_middle before after (Numbered n)) in
         let order : IsAfter (length t.reading.table) n (numbers before) =
         in_order (numbers before) (numbers after) n (length t.reading.table) (length more) (sym (numbers_of_both before (Numbered n ∷ after)) ∙ ap numbers (sym e) ∙ numbers_are) in
         let is_shown : IsShown u.reading (Numbered n) = All-contains (IsShown u.reading) c.units (Numbered n) shown_all here in
-        newly_numbered w forgets of s x.branches stored u.reading last lawful (length t.reading.table) of_stack n order.from is_shown.0 laws.flatly is_shown.1 before
+        newly_numbered s x.branches stored u.reading last lawful (length t.reading.table) of_stack n order.from is_shown.0 laws.flatly is_shown.1 before
         (λ m among. All-contains (λ k. k < n) (numbers before) m order.greater (has_number before m among)) (depth s.frames)
     one_unit before after (Learnt d) e =
         let here : Contains c.units (Learnt d) = subst (λ us. Contains us (Learnt d)) (sym e) (in_middle before after (Learnt d)) in
-        let news : AreNew forgets stored.clauses [] (before ++ Learnt d ∷ after) = subst (AreNew forgets stored.clauses []) e (run.new_units budget.units) in
-        learnt w forgets of s x.branches stored u.reading last lawful laws.as_written laws.by_numbers laws.in_turn laws.flatly limit
-        (λ z. limited IsOfTheory b.counts_learnt (is_unlimited limit) b.units c.units (Learnt d) (budget.counts ∙ only_first (not (is_unlimited limit)) forgets (of.first z)) budget.units run.turns.spends.free here (λ h. h)) before d
+        let news : AreNew false stored.clauses [] (before ++ Learnt d ∷ after) = subst (AreNew false stored.clauses []) e (run.new_units budget.units) in
+        learnt s x.branches stored u.reading last lawful laws.as_written laws.by_numbers laws.in_turn laws.flatly limit
+        (limited IsOfTheory b.counts_learnt (is_unlimited limit) b.units c.units (Learnt d) budget.counts budget.units run.turns.spends.free here (λ h. h)) before d
         (front_in (IsShown u.reading) before (Learnt d ∷ after) (subst (λ (us : List Spent). All (IsShown u.reading) us) e shown_all)) (All-contains (IsShown u.reading) c.units (Learnt d) shown_all here)
-        (new_front forgets stored.clauses [] before (Learnt d ∷ after) news) (new_at forgets stored.clauses [] before after (Learnt d) news)
+        (new_front stored.clauses [] before (Learnt d ∷ after) news) (new_at stored.clauses [] before after (Learnt d) news)
     one_unit before after (Pivot l) e =
         let here : Contains c.units (Pivot l) = subst (λ us. Contains us (Pivot l)) (sym e) (in_middle before after (Pivot l)) in
         limited IsNoPivot b.keeps_lines (is_unlimited limit) b.units c.units (Pivot l) budget.keeps budget.units run.turns.spends.no_pivots here (λ h. h)
 
-    are_units : AreUnits s.trees s.frames x.branches limit w (map (unit_of u.reading.table (depth s.frames)) c.units)
+    are_units : AreUnits s.trees s.frames x.branches limit (map (unit_of u.reading.table (depth s.frames)) c.units)
     are_units before after y e =
         let r : Split (unit_of u.reading.table (depth s.frames)) c.units before after y = split (unit_of u.reading.table (depth s.frames)) c.units before after y e in
-        subst (λ (us : List ShownUnit). IsUnit s.trees s.frames x.branches limit w us y) r.front_is
-        (subst (IsUnit s.trees s.frames x.branches limit w (map (unit_of u.reading.table (depth s.frames)) r.front)) r.one_is (one_unit r.front r.back r.one r.is))
+        subst (λ (us : List ShownUnit). IsUnit s.trees s.frames x.branches limit us y) r.front_is
+        (subst (IsUnit s.trees s.frames x.branches limit (map (unit_of u.reading.table (depth s.frames)) r.front)) r.one_is (one_unit r.front r.back r.one r.is))
 
     are_chained : (v : Bool) → is_unlimited limit ≡ v
         → AreChained u.variables.sums (IsBoundOf (IsCheckAtom s.trees s.frames x.branches)) (first_basis u.variables.sums) None (map (unit_of u.reading.table (depth s.frames)) c.units)
@@ -290,7 +310,7 @@ module _ (w : ℕ) (forgets : Bool) (of : IsOfWorker w forgets) (laws : Laws) (s
         (chained_over (Contains u.reading.table) (IsCheckAtom s.trees s.frames x.branches) (λ a k. All-contains (IsCheckAtom s.trees s.frames x.branches) u.reading.table a shown.atoms k) sums (first_basis sums)
         (Some pivots.grid) c.units pivots.lines)
 
-  pub shows_units : length c.units ≡ c.limit → ShowsUnits s limit w u c.units
+  pub shows_units : length c.units ≡ c.limit → ShowsUnits s limit u c.units
   shows_units spent x h =
       let shown : IsShowing (by_levels s u) x = shown_by_levels laws.flatly s u x (trees_stay s t.reading u.reading begins run.turns.grown) (frames_stay s t.reading u.reading begins run.turns.grown) h in
       record {

@@ -1,7 +1,7 @@
 -- What the units of a search show.
-use Rattle.std.proofs.Common.{◌≡◌, ◌≢◌, inl, inr, ◌⊎◌, ℕ, ◌+◌, ◌-◌, ◌<◌, ◌≤◌, zero, suc, Bool, true, false, List, [], ◌∷◌, ◌++◌, map, length, All, Contains, get_or, subst, sym, ap, ◌∙◌, arith, refl, append_assoc}
-use Rattle.std.specs.Prelude.{ℤ, AllPairs, Some, nat_lt}
-use Rattle.std.proofs.lemmas.List.{take_all, append-nil, length-map}
+use Rattle.std.proofs.Common.{true, ◌≡◌, ◌≢◌, inl, inr, ◌⊎◌, ℕ, ◌+◌, ◌-◌, ◌<◌, ◌≤◌, false, List, [], ◌∷◌, ◌++◌, map, length, All, Contains, get_or, subst, sym, ap, ◌∙◌, arith, refl, append_assoc}
+use Rattle.std.specs.Prelude.{ℤ, AllPairs, Some}
+use Rattle.std.proofs.lemmas.List.{take_all, append-nil}
 use Rattle.std.proofs.lemmas.List.Kept.{AllPairs-cons}
 use Rattle.std.proofs.lemmas.List.Elements.{All-head, All-tail, All-contains, All-map}
 use Rattle.literals.specs.Signed.{Signed, opposite}
@@ -28,7 +28,7 @@ use Rattle.smt_meaning.specs.Follows.{Follows, FollowsFrom, follows, follows_fro
 use Rattle.smt_meaning.specs.Clause.{clause_symbols}
 use Rattle.smt_meaning.specs.Forced.{Sign, Forces, literals_of}
 use Rattle.smt_meaning.specs.Forced.Reaches.{start, unit}
-use Rattle.smt_meaning.specs.Report.{IsCheckAtom, IsPartClause, IsAsserted as IsAssertedClause, IsEarlier, IsGiven, IsKept, IsLearnt, IsNumbered, LearningCosts}
+use Rattle.smt_meaning.specs.Report.{IsCheckAtom, IsPartClause, IsAsserted as IsAssertedClause, IsEarlier, IsGiven, IsLearnt, IsNumbered, WorkCosts}
 use Rattle.scope_stack.specs.Shown.{IsLawful}
 use Rattle.term_store.specs.Terms.{AreDifferent}
 use Rattle.term_store.proofs.PlaceLemmas.{place_of-is}
@@ -46,7 +46,7 @@ use Rattle.smt_laws.specs.Flat.{flat, FlatSaysTheSame, SaysTheSame}
 use Rattle.check_atoms.specs.Laws.{IsSameOfNoInts}
 use Rattle.first_clauses.specs.PartClausesFirst.{ForcesParts, IsAsserted, IsForced, written_literal, unit as unit_clause}
 use Rattle.cdcl_core.specs.Search.{literal_lists}
-use Rattle.cdcl_core.specs.Turns.{AreNew, IsLasting, IsNewUnit, IsUnforced, IsShown}
+use Rattle.cdcl_core.specs.Turns.{AreNew, IsNewUnit, IsUnforced, IsShown}
 use Rattle.worker.specs.Shown.{clause_of, unit_of}
 use Rattle.worker.proofs.Lists.{first_or_later}
 use Rattle.worker.proofs.Numbers.{IsApart, number_in, number_again}
@@ -59,23 +59,23 @@ numbers_of_both (Learnt c ∷ us) vs = numbers_of_both us vs
 numbers_of_both (Numbered n ∷ us) vs = ap (λ ns. n ∷ ns) (numbers_of_both us vs)
 numbers_of_both (Pivot l ∷ us) vs = numbers_of_both us vs
 
--- ---- what is new is new at its place, and isn't empty
+-- ---- what is new is new at its place, and isn't empty, where no clause is forgotten
 
-pub new_at : (forgets : Bool) (base : List Kept) (before us vs : List Spent) (x : Spent) → AreNew forgets base before (us ++ x ∷ vs) → IsNewUnit forgets base (before ++ us) x
-new_at forgets base before [] vs x h = subst (λ xs. IsNewUnit forgets base xs x) (sym (append-nil before)) h.0
-new_at forgets base before (u ∷ us) vs x h = subst (λ xs. IsNewUnit forgets base xs x) (append_assoc before (u ∷ []) us) (new_at forgets base (before ++ u ∷ []) us vs x h.1)
+pub new_at : (base : List Kept) (before us vs : List Spent) (x : Spent) → AreNew false base before (us ++ x ∷ vs) → IsNewUnit false base (before ++ us) x
+new_at base before [] vs x h = subst (λ xs. IsNewUnit false base xs x) (sym (append-nil before)) h.0
+new_at base before (u ∷ us) vs x h = subst (λ xs. IsNewUnit false base xs x) (append_assoc before (u ∷ []) us) (new_at base (before ++ u ∷ []) us vs x h.1)
 
-pub new_front : (forgets : Bool) (base : List Kept) (before us vs : List Spent) → AreNew forgets base before (us ++ vs) → AreNew forgets base before us
-new_front forgets base before [] vs h = tt
-new_front forgets base before (u ∷ us) vs h = (h.0, new_front forgets base (before ++ u ∷ []) us vs h.1)
+pub new_front : (base : List Kept) (before us vs : List Spent) → AreNew false base before (us ++ vs) → AreNew false base before us
+new_front base before [] vs h = tt
+new_front base before (u ∷ us) vs h = (h.0, new_front base (before ++ u ∷ []) us vs h.1)
 
-not_empty : (forgets : Bool) (base : List Kept) (before us : List Spent) (c : Lemma) → AreNew forgets base before us → Contains us (Learnt c) → c.literals ≡ [] → ⊥
-not_empty forgets base before [] c h k e = absurd (omega (arith, k.1))
-not_empty forgets base before (u ∷ us) c h k e =
+not_empty : (base : List Kept) (before us : List Spent) (c : Lemma) → AreNew false base before us → Contains us (Learnt c) → c.literals ≡ [] → ⊥
+not_empty base before [] c h k e = absurd (omega (arith, k.1))
+not_empty base before (u ∷ us) c h k e =
     first_or_later ⊥ u (Learnt c) us (λ same.
-    (let new : IsUnforced forgets base before c.literals = subst (IsNewUnit forgets base before) same h.0 in
+    (let new : IsUnforced false base before c.literals = subst (IsNewUnit false base before) same h.0 in
     new.unforced (λ bs cs l f. absurd (none_is bs cs l (sym e ∙ f)))))
-    (λ later. not_empty forgets base (before ++ u ∷ []) us c h.1 later e) k
+    (λ later. not_empty base (before ++ u ∷ []) us c h.1 later e) k
   where
     none_is : (bs cs : List Signed) (l : Signed) → [] ≡ bs ++ l ∷ cs → ⊥
     none_is [] cs l e = cc
@@ -102,17 +102,6 @@ other_atoms table apart (l ∷ ls) h own =
 different_trees : (trees : List Tree) → AreInOrder trees → AreDifferent trees
 different_trees trees order j k l h e = let same : j ≡ k = order.different j k (omega arith) h e in omega arith
 
--- a worker of this number forgets clauses only if it isn't the first, and none of those that count
-pub record IsOfWorker (w : ℕ) (forgets : Bool) : Type 0 where
-  pub first : w ≡ 0 → forgets ≡ false
-  pub lasts : (ls : List Literal) (ms : List Signed) → length ls ≡ length ms → IsKept w ls → IsLasting forgets ms
-
-pub of_worker : (w : ℕ) (forgets : Bool) → forgets ≡ nat_lt 0 w → IsOfWorker w forgets
-of_worker zero true e = absurd cc
-of_worker zero false e = record { first = λ z. refl; lasts = λ ls ms same k. tt }
-of_worker (suc w) true e = record { first = λ z. absurd (omega (arith, z)); lasts = λ ls ms same k. omega (arith, same, k) }
-of_worker (suc w) false e = record { first = λ z. refl; lasts = λ ls ms same k. tt }
-
 -- what is known of the last reading, the branches and the first clauses
 pub record IsLast (s : Stack) (branches : List Line) (stored : Stored) (q : Reading) : Type 0 where
   pub trees : q.trees ≡ s.trees
@@ -123,7 +112,7 @@ pub record IsLast (s : Stack) (branches : List Line) (stored : Stored) (q : Read
   pub assertions : All (IsAsserted s.trees q.table stored.clauses) (assertions_of s.frames)
   pub follow : (k : Kept) → Contains stored.clauses k → FollowsAt q k.level k.literals
 
-module _ (w : ℕ) (forgets : Bool) (of : IsOfWorker w forgets) (s : Stack) (branches : List Line) (stored : Stored) (q : Reading) (last : IsLast s branches stored q) (lawful : IsLawful s) where
+module _ (s : Stack) (branches : List Line) (stored : Stored) (q : Reading) (last : IsLast s branches stored q) (lawful : IsLawful s) where
   again : (n : ℕ) → n < length q.table → number_in q.table (atom_at q.table n) ≡ n
   again n h = number_again q.table n last.apart h
 
@@ -152,8 +141,8 @@ module _ (w : ℕ) (forgets : Bool) (of : IsOfWorker w forgets) (s : Stack) (bra
 
   -- ---- a clause that is given is forced
 
-  module _ (before : List Spent) (shown : All (IsShown q) before) (new : AreNew forgets stored.clauses [] before) (known : List (List Signed))
-      (base_in : (k : Kept) → Contains stored.clauses k → Contains known k.literals) (learnt_in : (d : Lemma) → Contains before (Learnt d) → IsLasting forgets d.literals → Contains known d.literals) where
+  module _ (before : List Spent) (shown : All (IsShown q) before) (new : AreNew false stored.clauses [] before) (known : List (List Signed))
+      (base_in : (k : Kept) → Contains stored.clauses k → Contains known k.literals) (learnt_in : (d : Lemma) → Contains before (Learnt d) → Contains known d.literals) where
     base_known : (ls : List Signed) → Contains (literal_lists stored.clauses) ls → Contains known ls
     base_known ls h = let r : ComesBy (λ (k : Kept). k.literals) stored.clauses ls = from_map (λ (k : Kept). k.literals) stored.clauses ls h in subst (Contains known) r.is (base_in r.from r.among)
 
@@ -180,7 +169,7 @@ module _ (w : ℕ) (forgets : Bool) (of : IsOfWorker w forgets) (s : Stack) (bra
         let kept : Contains known (unit_clause top.number) = subst (Contains known) top.kept.literals (base_in top.kept.kept top.kept.among) in
         subst (IsForcedBy known) (sym same) (record { forced = forced_by_itself known (unit_clause top.number) kept; some = λ e. cc })
 
-    earlier_given : (level : ℕ) (ls : List Literal) → IsEarlier w (map (unit_of q.table level) before) ls → IsForcedBy known (map (numbered (number_in q.table)) ls)
+    earlier_given : (level : ℕ) (ls : List Literal) → IsEarlier (map (unit_of q.table level) before) ls → IsForcedBy known (map (numbered (number_in q.table)) ls)
     earlier_given level ls e =
         let r : ComesBy (unit_of q.table level) before (Shown.Learnt e.clause) = from_map (unit_of q.table level) before (Shown.Learnt e.clause) e.learnt in
         of_unit r.from r.among r.is
@@ -199,11 +188,11 @@ module _ (w : ℕ) (forgets : Bool) (of : IsOfWorker w forgets) (s : Stack) (bra
             let same : map (numbered (number_in q.table)) ls ≡ d.literals =
             ap (map (numbered (number_in q.table))) (e.same ∙ ap (λ (x : Clause). x.literals) (sym is)) ∙ numbered_back d.literals within in
             subst (IsForcedBy known) (sym same) (record {
-              forced = forced_by_itself known d.literals (learnt_in d c (of.lasts ls d.literals (ap (λ (ms : List Literal). length ms) e.same ∙ (ap (λ (x : Clause). length x.literals) (sym is) ∙ length-map d.literals (written_literal q.table))) e.kept));
-              some = λ empty. not_empty forgets stored.clauses [] before d new c empty;
+              forced = forced_by_itself known d.literals (learnt_in d c);
+              some = λ empty. not_empty stored.clauses [] before d new c empty;
             })
 
-    pub given : (level : ℕ) (ls : List Literal) → IsGiven s.trees s.frames w (map (unit_of q.table level) before) ls → IsForcedBy known (map (numbered (number_in q.table)) ls)
+    pub given : (level : ℕ) (ls : List Literal) → IsGiven s.trees s.frames (map (unit_of q.table level) before) ls → IsForcedBy known (map (numbered (number_in q.table)) ls)
     given level ls (inl p) = part_given ls p
     given level ls (inr (inl a)) = assertion_given ls a
     given level ls (inr (inr e)) = earlier_given level ls e
@@ -232,9 +221,9 @@ module _ (w : ℕ) (forgets : Bool) (of : IsOfWorker w forgets) (s : Stack) (bra
       at_most : (n : ℕ) → n ≤ n - 1 + 1
       at_most n = omega arith
 
-  pub learnt : FollowsAsWritten → ForcesByNumbers → ForcesInTurn → FlatSaysTheSame → (limit : ℤ) → LearningCosts w limit → (before : List Spent) (c : Lemma) → All (IsShown q) before → IsShown q (Learnt c)
-      → AreNew forgets stored.clauses [] before → IsUnforced forgets stored.clauses before c.literals
-      → IsLearnt s.trees s.frames branches limit w (map (unit_of q.table (depth s.frames)) before) (clause_of q.table (depth s.frames) c.literals)
+  pub learnt : FollowsAsWritten → ForcesByNumbers → ForcesInTurn → FlatSaysTheSame → (limit : ℤ) → WorkCosts limit → (before : List Spent) (c : Lemma) → All (IsShown q) before → IsShown q (Learnt c)
+      → AreNew false stored.clauses [] before → IsUnforced false stored.clauses before c.literals
+      → IsLearnt s.trees s.frames branches limit (map (unit_of q.table (depth s.frames)) before) (clause_of q.table (depth s.frames) c.literals)
   learnt as_written by_numbers in_turn flatly limit costs before c all shown new u =
       let within : All (λ (l : Signed). l.atom < length q.table) c.literals = inside c shown in
       record {
@@ -249,8 +238,8 @@ module _ (w : ℕ) (forgets : Bool) (of : IsOfWorker w forgets) (s : Stack) (bra
             let each : (ls : List Signed) → Contains (map (map (numbered (number_in q.table))) clauses) ls → IsForcedBy u.known ls =
             λ ls k. (let r : ComesBy (map (numbered (number_in q.table))) clauses ls = from_map (map (numbered (number_in q.table))) clauses ls k in
             subst (IsForcedBy u.known) r.is
-            (given before all new u.known u.base_in u.learnt_in (depth s.frames) r.from
-            (All-contains (IsGiven s.trees s.frames w (map (unit_of q.table (depth s.frames)) before)) clauses r.from all_given r.among))) in
+            (given before all new u.known u.base_in (λ d m. u.learnt_in d m tt) (depth s.frames) r.from
+            (All-contains (IsGiven s.trees s.frames (map (unit_of q.table (depth s.frames)) before)) clauses r.from all_given r.among))) in
             u.unforced (in_turn u.known (map (map (numbered (number_in q.table))) clauses) c.literals each shown.0.1.no_pair by);
       }
 

@@ -20,7 +20,7 @@ HasWon c = Contains c.own (Win c.worker)
 
 -- the report is this worker's, and shows why it found no answer
 abbrev pub IsReportOf : Stack → ℤ → ℕ → ReportValue → Type 0
-IsReportOf s limit w r = (r.worker ≡ w) × Shows s.trees s.frames limit w r.branches r.cause
+IsReportOf s limit w r = (r.worker ≡ w) × Shows s.trees s.frames limit r.branches r.cause
 
 -- the answer is right
 abbrev pub IsRight : Stack → AnswerValue → Type 0

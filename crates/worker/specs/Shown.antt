@@ -1,5 +1,5 @@
 -- What a search asks of its first atoms, and what a worker shows of the units that it has spent.
-use Rattle.std.specs.Prelude.{◌⊎◌, ℕ, ℤ, ◌<◌, List, map, All, Contains}
+use Rattle.std.specs.Prelude.{◌⊎◌, ℕ, ℤ, ◌<◌, Bool, ◌&&◌, nat_lt, List, map, All, Contains}
 use Rattle.literals.specs.Signed.{Signed}
 use Rattle.smt_meaning.specs.declared.clauses.Atom.{Atom}
 use Rattle.smt_meaning.specs.declared.clauses.Clause.{Clause}
@@ -9,7 +9,7 @@ use Rattle.smt_meaning.specs.declared.reports.Cause.TheVariants.{Units}
 use Rattle.smt_meaning.specs.Stack.{depth}
 use Rattle.smt_meaning.specs.StackCommand.{Stack}
 use Rattle.smt_meaning.specs.Atoms.{stack_atoms}
-use Rattle.smt_meaning.specs.Report.{Shows}
+use Rattle.smt_meaning.specs.Report.{Shows, is_unlimited}
 use Rattle.search_port.specs.State.{TheoryState, atom_at}
 use Rattle.search_port.specs.Showing.{IsShowing}
 use Rattle.search_port.specs.declared.budget.Spent.{Spent}
@@ -32,13 +32,17 @@ unit_of table level (Learnt c) = Shown.Learnt (clause_of table level c.literals)
 unit_of table level (Numbered n) = Shown.Numbered (atom_at table n)
 unit_of table level (Pivot l) = Shown.Pivot l
 
+-- whether the worker of this number may forget what it learns: under a limit none may, and the first one never
+abbrev pub may_forget : ℤ → ℕ → Bool
+may_forget limit w = is_unlimited limit && nat_lt 0 w
+
 -- it speaks of so many numbers
 abbrev pub IsOfNumbers : ℕ → Spent → Type 0
 IsOfNumbers n (Learnt c) = All (λ (l : Signed). l.atom < n) c.literals
 IsOfNumbers n (Numbered k) = k < n
 IsOfNumbers n (Pivot l) = Unit {0}
 
--- with what a theory in this state shows, this worker shows that these are all units that it may spend, their clauses at the level of the whole stack
-abbrev pub ShowsUnits : Stack → ℤ → ℕ → TheoryState → List Spent → Type 0
-ShowsUnits s limit w t us =
-    (x : Showing) → IsShowing t x → Shows s.trees s.frames limit w x.branches (Units (map (unit_of t.reading.table (depth s.frames)) us))
+-- with what a theory in this state shows, a worker shows that these are all units that it may spend, their clauses at the level of the whole stack
+abbrev pub ShowsUnits : Stack → ℤ → TheoryState → List Spent → Type 0
+ShowsUnits s limit t us =
+    (x : Showing) → IsShowing t x → Shows s.trees s.frames limit x.branches (Units (map (unit_of t.reading.table (depth s.frames)) us))

@@ -35,7 +35,7 @@ pub(crate) enum Found {
 
 /// Searches from the first clauses on, with a theory that was told nothing and made no pivot: a model of all of them under which each number is in the range is one of the
 /// assertions, and where the empty clause follows, they have none. The hook is called between any two units. Where the search ends otherwise, its worker shows why: want of memory,
-/// if there is no limit and no part is an Int.
+/// if there is no limit and no part is an Int. Where there is none, workers but the first may forget what they learn.
 pub(crate) fn search<T: Shown, H: Hook<T>>(
     alloc: Global,
     stack: &Stack,
@@ -63,10 +63,10 @@ pub(crate) fn search<T: Shown, H: Hook<T>>(
     follows_as_written();
     forces_by_numbers();
     forces_in_turn();
-    let forgets = worker > 0;
     let mut order = Order::new(alloc, settings.seed, worker);
     let limit = units_within(settings);
     let limited = has_limit(settings);
+    let forgets = (worker > 0) & !limited;
     let mut budget = Budget::new(alloc, limit, limited | forgets, limited, settings.share);
     match solve(
         alloc,

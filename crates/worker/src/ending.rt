@@ -1,9 +1,9 @@
 //! The reports of searches that ended on their way.
-ghost use Rattle.std.specs.Prelude.{◌≡◌, length, All};
+ghost use Rattle.std.specs.Prelude.{◌≡◌, false, length, All};
 ghost use Rattle.smt_meaning.specs.Kinds.{has_no_integers};
 ghost use Rattle.smt_laws.specs.Flat.{flat};
 ghost use Rattle.worker.specs.Outcome.{IsReportOf, ReportsMemory};
-ghost use Rattle.worker.specs.Shown.{IsOfNumbers, ShowsUnits};
+ghost use Rattle.worker.specs.Shown.{IsOfNumbers, ShowsUnits, may_forget};
 
 use crate::limits::has_limit;
 use crate::plain::nothing_leaves_range;
@@ -15,7 +15,7 @@ use smt_laws::flat_says_the_same;
 use smt_meaning::{Cause, Report, Settings};
 use std::alloc::Global;
 
-/// The report where all units are spent: it shows them, and the branches of the theory. Without a limit and without an Int the room for more units is wanting, as it is where they can't be written out.
+/// The report where all units are spent: it shows them, and the branches of the theory. Without a limit the room for more units is wanting for a worker that may have forgotten some, and without an Int, as it is where they can't be written out.
 pub(crate) fn all_spent<T: Shown>(
     alloc: Global,
     stack: &Stack,
@@ -29,11 +29,16 @@ pub(crate) fn all_spent<T: Shown>(
     requires trees { (T.state theory).reading.trees ≡ stack.now.trees }
     requires frames { (T.state theory).reading.frames ≡ flat stack.now.frames }
     requires numbers { All (IsOfNumbers (length (T.state theory).reading.table)) budget.units }
-    requires spent { ShowsUnits stack.now settings.now.units worker (T.state theory) budget.units }
+    requires spent { may_forget settings.now.units worker ≡ false → ShowsUnits stack.now settings.now.units (T.state theory) budget.units }
     ensures report { IsReportOf stack.now settings.now.units worker result }
     ensures memory { ReportsMemory stack.now.frames settings.now.units result }
 {
-    if is_integer_free && !has_limit(settings) {
+    let limited = has_limit(settings);
+    let forgets = (worker > 0) & !limited;
+    if forgets {
+        return stopped(alloc, stack, settings, worker, theory);
+    }
+    if is_integer_free && !limited {
         return stopped(alloc, stack, settings, worker, theory);
     }
     let units = match write_units(alloc, &theory, stack.depth(), budget.into_units()) {

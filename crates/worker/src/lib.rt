@@ -6,8 +6,10 @@
 //! make every assertion true, that there is no model, a report, or the number of the worker with
 //! which the hook stopped it.
 //!
-//! A worker has a number. Worker 0 keeps all clauses, and without a limit what it learns costs no
-//! unit. The others forget long clauses, and all that they learn are units.
+//! A worker has a number. Under a limit each keeps all clauses, and what it learns are units.
+//! Without one nothing that is learnt is a unit. There workers but the first may forget long
+//! clauses; they have room for 2^40 units and learnt clauses, and past it show a number that left
+//! the range, or want of memory.
 //!
 //! `first_turn`, `run`: a worker's part in a race over the stack. Between any two units, and any two
 //! clauses to be shared, it takes a turn: it looks once whether another has won, shares the next of
@@ -20,11 +22,11 @@
 //! A report shows as many units as the limit in force says, with the rows at which the theory
 //! branched; or where a number left the range; or want of memory. It takes no memory.
 //!
-//! A unit is a learnt clause that follows at the depth of the stack and that nothing before it
-//! forces (of clauses learnt by workers but worker 0 those of at most 8 literals); or an atom of the
-//! check that is none of the stack's and wasn't numbered before.
+//! A unit is an atom of the check that is none of the stack's and wasn't numbered before. Under a
+//! limit a learnt clause is one too: it follows at the depth of the stack, and nothing before it
+//! forces it, also no clause that was learnt.
 //!
-//! Under a limit a pivot is one too, by Bland's rule in a row over atoms of the check, from the basis
+//! Under a limit so is a pivot, by Bland's rule in a row over atoms of the check, from the basis
 //! that those before it left; and where no other unit is between, from the grid that the one before
 //! it left, with bounds and variables that were taken in since.
 //!

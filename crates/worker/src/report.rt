@@ -49,7 +49,7 @@ fn plain_report(
     worker: u8,
     cause: Cause,
 ) -> Report
-    requires { Shows stack.now.trees stack.now.frames settings.now.units worker [] cause }
+    requires { Shows stack.now.trees stack.now.frames settings.now.units [] cause }
     ensures report { IsReportOf stack.now settings.now.units worker result }
     ensures cause { result.cause ≡ cause }
 {

@@ -1,6 +1,6 @@
 //! The program round a run, over a command line and ends in memory.
 use ports::{MemSink, MemSource};
-use smt_top::{program, words_of};
+use smt_program::{program, words_of};
 use smt_words::WordsError;
 use std::alloc::Global;
 use std::env;

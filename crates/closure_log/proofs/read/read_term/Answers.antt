@@ -1,4 +1,4 @@
-use Rattle.std.proofs.Common.{rules, ◌≡◌, Option, Some, None, sym, subst, refl, ◌∙◌}
+use Rattle.std.proofs.Common.{rules, ◌≡◌, None, sym}
 use Rattle.closure_log.proofs.Reading.{no_number, open_untold, told_read, open_read, read_same}
 use Rattle.closure_log.proofs.read.read_term.Goals as goal
 

@@ -1,5 +1,4 @@
-use Rattle.std.proofs.Common.{rules, ◌≡◌, Option, None}
-use Rattle.literals.specs.Signed.{Signed}
+use Rattle.std.proofs.Common.{rules, ◌≡◌, None}
 use Rattle.closure_log.proofs.Scanning.{where_none}
 use Rattle.closure_log.proofs.scan.is_open.Goals as goal
 

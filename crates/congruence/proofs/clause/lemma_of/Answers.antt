@@ -1,4 +1,3 @@
-use Rattle.std.proofs.Common.{rules}
 use Rattle.congruence.proofs.Reasoning.{same_conflict}
 use Rattle.congruence.proofs.clause.lemma_of.Goals as goal
 

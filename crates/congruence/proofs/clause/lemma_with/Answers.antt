@@ -1,6 +1,4 @@
 use Rattle.std.proofs.Common.{rules, ◌≡◌, subst, sym}
-use Rattle.std.specs.Prelude.{List}
-use Rattle.literals.specs.Signed.{Signed}
 use Rattle.congruence.specs.Clauses.{IsFalseClause}
 use Rattle.congruence.proofs.Clausing.{false_is_conflict}
 use Rattle.congruence.proofs.clause.lemma_with.Goals as goal

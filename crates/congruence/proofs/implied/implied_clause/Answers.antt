@@ -1,7 +1,6 @@
 use Rattle.std.proofs.Common.{rules, ◌≡◌, ◌∷◌, map, sym, subst}
 use Rattle.std.specs.Prelude.{List}
 use Rattle.literals.specs.Signed.{Signed, opposite}
-use Rattle.search_port.specs.declared.budget.Lemma.{Lemma}
 use Rattle.congruence.specs.Reasons.{HaveTheSame}
 use Rattle.congruence.specs.Implied.{IsPressingLemma}
 use Rattle.congruence.proofs.Implying.{implied_presses}

@@ -9,7 +9,7 @@ pub loop-worker-preserved : goal.loop-worker-preserved
 loop-worker-preserved c = record {
   one_each = rw c.in_ok-push.ensures.ok (one_more c.loop-worker.reports c.loop-worker.worker _ c.loop-worker.invariant.one_each refl);
   shown = λ ts frames limit.
-      subst (λ xs. All (λ (r : Report). Shows ts frames limit r.worker r.branches r.cause) xs) (sym c.in_ok-push.ensures.ok)
+      subst (λ xs. All (λ (r : Report). Shows ts frames limit r.branches r.cause) xs) (sym c.in_ok-push.ensures.ok)
       (shown_more ts frames limit c.loop-worker.reports _ (c.loop-worker.invariant.shown ts frames limit) refl);
 }
 

@@ -1,7 +1,7 @@
 use Rattle.std.proofs.Common.{rules}
 use Rattle.smt_meaning.specs.declared.clauses.Atom.TheVariants.{Same}
 use Rattle.proof_meaning.specs.Proof.{literal}
-use Rattle.proof_form.proofs.ClausesCodes.{codes_joined}
+use Rattle.proof_terms.proofs.ClausesCodes.{codes_joined}
 use Rattle.proof_form.proofs.equalities.add_same.Goals as goal
 
 pub returns-clause-literal : goal.returns-clause-literal

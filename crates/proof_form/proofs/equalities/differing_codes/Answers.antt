@@ -4,8 +4,8 @@ use Rattle.std.proofs.lemmas.List.Elements.{All-contains, All-push}
 use Rattle.smt_meaning.specs.declared.clauses.Literal.{Literal}
 use Rattle.proof_meaning.specs.Proof.{IsLiteral}
 use Rattle.proof_meaning.specs.Rules.{differing}
-use Rattle.proof_form.specs.Kept.{AreCodesOf}
-use Rattle.proof_form.proofs.ClausesCodes.{go_on_both}
+use Rattle.proof_terms.specs.Kept.{AreCodesOf}
+use Rattle.proof_terms.proofs.ClausesCodes.{go_on_both}
 use Rattle.proof_form.proofs.EqualitiesComes.{differing_more, differs_at, differ_at}
 use Rattle.proof_form.proofs.equalities.differing_codes.Goals as goal
 

@@ -2,7 +2,7 @@ use Rattle.std.proofs.Common.{◌≡◌, take}
 use Rattle.std.specs.Prelude.{All}
 use Rattle.proof_meaning.specs.Proof.{IsLiteral}
 use Rattle.proof_meaning.specs.Rules.{differing}
-use Rattle.proof_form.specs.Kept.{AreCodesOf, GoOn}
+use Rattle.proof_terms.specs.Kept.{AreCodesOf, GoOn}
 use Rattle.proof_form.proofs.equalities.differing_codes.Given as goal
 
 abbrev pub invariant-loop-i : goal.invariant-loop-i

@@ -1,6 +1,6 @@
 use Rattle.std.proofs.Common.{◌<◌, ◌∙◌, length, [], All, sym, ap, subst}
 use Rattle.proof_form.specs.Asserted.{asserted_at}
-use Rattle.proof_form.specs.Terms.{ProofTerms}
+use Rattle.proof_terms.specs.Terms.{ProofTerms}
 use Rattle.proof_form.proofs.whole.judge_beside.Goals as goal
 
 pub judge_lists-requires-clause-declared : goal.judge_lists-requires-clause-declared

@@ -1,7 +1,7 @@
 use Rattle.std.proofs.Common.{sym, ap}
 use Rattle.smt_meaning.specs.Sexp.{sexp}
 use Rattle.look_ahead.specs.Ahead.{ahead}
-use Rattle.proof_form.specs.Terms.{ProofTerms}
+use Rattle.proof_terms.specs.Terms.{ProofTerms}
 use Rattle.proof_form.proofs.Finding.{found_wrong, found_rest}
 use Rattle.proof_form.proofs.whole.judge_lists.Goals as goal
 

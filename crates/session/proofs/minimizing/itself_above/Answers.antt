@@ -3,8 +3,8 @@ use Rattle.std.specs.Prelude.{codes, Err}
 use Rattle.smt_meaning.specs.declared.tokens.Token.{Token}
 use Rattle.smt_meaning.specs.Goal.{pair_text}
 use Rattle.scope_stack.specs.Carries.{Assumes, IsAssumed, IsRefused, assumption}
+use Rattle.goal_search.proofs.Unders.{below_within}
 use Rattle.session.proofs.Itself.{never_refused, stands_above}
-use Rattle.session.proofs.Unders.{below_within}
 use Rattle.session.proofs.minimizing.itself_above.Goals as goal
 
 pub unreachable-requires : goal.unreachable-requires

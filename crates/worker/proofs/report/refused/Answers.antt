@@ -11,5 +11,5 @@ plain_report-requires c =
     let s = c.args.stack.now in
     let numerals : All (λ (t : Tree). IsTrue (numerals_fit t)) s.trees =
     subst (All (λ (t : Tree). IsTrue (numerals_fit t))) c.terms.ensures.trees (c.if-not-numerals_fit.ensures.yes refl) in
-    subst (Shows s.trees s.frames c.args.settings.now.units c.args.worker []) (sym c.cause_of.ensures)
-    (shown c.refused_term_leaves_range.ensures c.lawful_pairs_leave_range.ensures c.lawful_limits_leave_range.ensures s c.args.settings.now.units c.args.worker c.args.refusal c.laws.ensures numerals c.requires)
+    subst (Shows s.trees s.frames c.args.settings.now.units []) (sym c.cause_of.ensures)
+    (shown c.refused_term_leaves_range.ensures c.lawful_pairs_leave_range.ensures c.lawful_limits_leave_range.ensures s c.args.settings.now.units c.args.refusal c.laws.ensures numerals c.requires)

@@ -2,15 +2,16 @@ use Rattle.std.proofs.Common.{◌∙◌, ap, subst, [], Ok, rules}
 use Rattle.smt_meaning.specs.declared.answers.Mode.TheVariants as In
 use Rattle.smt_meaning.specs.declared.settings.Settings.{Settings}
 use Rattle.smt_meaning.specs.State.{State}
-use Rattle.session.specs.Assumed.{ChecksUnder}
+use Rattle.goal_search.specs.Assumed.{ChecksUnder}
 use Rattle.session.specs.Logics.{named}
+use Rattle.session.proofs.Refutes.{under_refutes}
 use Rattle.session.proofs.Replies.{assumed_ok}
 use Rattle.session.proofs.state.Session.check_assuming.Goals as goal
 
 pub enter-requires-clause-refuted : goal.enter-requires-clause-refuted
 enter-requires-clause-refuted g c =
     let h = (subst (λ p. ChecksUnder g.D.Decider.decides c.in_force-settings.result.workers c.in_force-settings.result.units c.args.terms.now c.self.inside.stack (Ok p) c.check_under.new.stack) c.in-Ok-Some.field-0-is c.in-Ok-Some.ensures.checked).refuted in
-    rw c.in-Ok-Some.field-0-is h
+    rw c.in-Ok-Some.field-0-is (under_refutes c.in-Ok-Some.assumed.answer.mode c.check_under.new.stack c.in-Ok-Some.assumed.assumptions h)
 
 pub returns-in-Ok-Some-clause-ok : goal.returns-in-Ok-Some-clause-ok
 returns-in-Ok-Some-clause-ok g c =

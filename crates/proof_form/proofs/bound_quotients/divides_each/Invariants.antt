@@ -1,5 +1,0 @@
-use Rattle.proof_form.proofs.BoundJoining.{AreDividing}
-use Rattle.proof_form.proofs.bound_quotients.divides_each.Given as goal
-
-abbrev pub invariant-loop-summand : goal.invariant-loop-summand
-invariant-loop-summand l = AreDividing l.divisor l.sum l.summand-index

@@ -1,7 +1,0 @@
-use Rattle.std.proofs.Common.{take, map}
-use Rattle.smt_meaning.specs.declared.clauses.Atom.TheVariants.{Truth}
-use Rattle.proof_form.specs.FormParts.{AreNumbersOf, Extends}
-use Rattle.proof_form.proofs.form_parts.number_truths.Given as goal
-
-abbrev pub invariant-loop-place : goal.invariant-loop-place
-invariant-loop-place l = Extends l.fn.clauses l.clauses × AreNumbersOf l.clauses.atoms l.numbers.items (map Truth (take l.place-index l.places))

@@ -1,6 +1,0 @@
-use Rattle.std.proofs.Common.{◌≡◌, take}
-use Rattle.proof_form.specs.FormValues.{is_odd}
-use Rattle.proof_form.proofs.form_values.odd.Given as goal
-
-abbrev pub invariant-loop-value : goal.invariant-loop-value
-invariant-loop-value l = l.odd ≡ is_odd (take l.value-index l.values)

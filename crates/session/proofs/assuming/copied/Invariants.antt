@@ -1,5 +1,0 @@
-use Rattle.std.proofs.Common.{◌≡◌, take}
-use Rattle.session.proofs.assuming.copied.Given as goal
-
-abbrev pub invariant-loop-assertion : goal.invariant-loop-assertion
-invariant-loop-assertion l = l.out ≡ take l.assertion-index l.assertions
