@@ -7,9 +7,6 @@
 //!
 //! The run's line is put into the errors by one call (none where the line is empty), unless the
 //! count of faults of that sink rose.
-//!
-//! `words_of`: from what the system gives of the command line, all words, in order; refused exactly
-//! where the system says that a word isn't UTF-8.
 #![tactic(auto)]
 
 ghost use Rattle.std.specs.Prelude.{◌≡◌, [], List, length};
@@ -21,17 +18,15 @@ ghost use Rattle.smt_top.specs.declared.top.Ended.{Ended as EndedValue};
 ghost use Rattle.smt_program.specs.Program.{IsServed, IsSaid, line_of};
 
 mod line;
-mod words;
 
 use line::line;
 use ports::{OpenGate, ReadSource, Sink, Source, WriteSink};
 use smt_top::{Forgetting, Outcome, run_through, unbegun};
-use smt_words::WordsError;
+use smt_words::{WordsError, words_of};
 use std::alloc::Global;
 use std::env;
 use std::process::ExitCode;
 use std::thread::Threads;
-pub use words::words_of;
 
 /// Runs the script that the source gives, where there are words of the command line. No entry is kept, so that a run may be as long as it likes.
 fn serve<R: Threads + Sync, S: Source, K: Sink>(

@@ -1,7 +1,7 @@
 //! The program round a run, over a command line and ends in memory.
 use ports::{MemSink, MemSource};
-use smt_program::{program, words_of};
-use smt_words::WordsError;
+use smt_program::program;
+use smt_words::{WordsError, words_of};
 use std::alloc::Global;
 use std::env;
 use std::env::{Env, FillError};
