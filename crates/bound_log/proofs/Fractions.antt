@@ -7,7 +7,7 @@ use Rattle.fraction128.specs.Number.{unreduced_sum, unreduced_product, whole}
 use Rattle.fraction128.proofs.RingEquations.{var, sum, product, minus, solve}
 use Rattle.fraction128.proofs.WholeNumbers.{wholes}
 use Rattle.fraction128.specs.declared.Summand.{Summand}
-use Rattle.fraction128.specs.Grid.{turned, variable_of}
+use Rattle.fraction128.specs.Grid.{variable_of}
 use Rattle.fraction128.specs.Lines.{sum_value}
 use Rattle.simplex.proofs.Leaves.{leaf_found}
 use Rattle.simplex_steps.specs.State.{values}

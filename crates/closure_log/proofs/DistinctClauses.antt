@@ -17,7 +17,7 @@ use Rattle.congruence.specs.Justified.{truth_by}
 use Rattle.congruence.specs.Clauses.{IsFalseClause, AddsReasons}
 use Rattle.congruence.proofs.Reasoning.{each_false, true_unless, true_where, twice}
 use Rattle.congruence.proofs.Values.{same_value-false, sign-true}
-use Rattle.closure_log.specs.Told.{IsTold}
+use Rattle.closure_log.specs.Whole.{IsGrounded}
 use Rattle.closure_log.proofs.Setting.{atom_is}
 use Rattle.closure_log.specs.declared.distinct.EqualArguments.{EqualArguments}
 use Rattle.closure_log.specs.Distinct.{IsDistinct, IsToldTrue, AreEqualAmong}
@@ -76,10 +76,10 @@ is_within n m is k h every less = let inside : get_or is k 0 < n = h k 0 less in
 pub all_within : (n m : ℕ) (is : List ℕ) → All (λ i. i < n) is → n + 2 ≤ m → All (λ i. i + 2 < m) is
 all_within n m is h every = All-weaker (λ i. i < n) (λ i. i + 2 < m) (λ i l. omega (arith, l, every)) is h
 
-pub false_clause : (s : Stack) (table : List Atom) (log : List Signed) (c : Congruence) (starts : List ℕ) (p : ℕ) (is : List ℕ) (l : Signed) (e : EqualArguments) (first ls : List Signed)
-    → IsTold s table c log starts → IsDistinct s.trees p is → IsToldTrue table log p l → AreEqualAmong c is e → first ≡ [] ++ opposite l ∷ []
+pub false_clause : (s : Stack) (table : List Atom) (log : List Signed) (c : Congruence) (p : ℕ) (is : List ℕ) (l : Signed) (e : EqualArguments) (first ls : List Signed)
+    → IsGrounded s table log c → IsDistinct s.trees p is → IsToldTrue table log p l → AreEqualAmong c is e → first ≡ [] ++ opposite l ∷ []
     → AddsReasons (signature_of s.frames) s.trees table c.reasons.items first ls (slice_index_or is e.earlier 0) (slice_index_or is e.later 0) → IsFalseClause (signature_of s.frames) s.trees table log ls
-false_clause s table log c starts p is l e first ls told distinct true' equal begun adds = record {
+false_clause s table log c p is l e first ls told distinct true' equal begun adds = record {
   is_false = adds.is_false log told.reasoned.told
       (subst (AllFalseIn log) (sym begun) (All-cons (IsFalseIn log) (opposite l) [] (subst (Contains log) (sym (twice l)) true'.told.told) (All-nil (IsFalseIn log))));
   valid = λ I interprets. true_unless (some_true (truth_by s.trees table I) ls) (λ none. clash I (adds.equal I interprets none) none);

@@ -10,3 +10,8 @@ pub mod Reading
 pub mod OddTelling
 pub mod Wide
 pub mod DistinctClauses
+pub mod WholeSteps
+pub mod Wholeness
+pub mod ByClasses
+pub mod ComparedElements
+pub mod Distincts

@@ -12,7 +12,7 @@ use Rattle.term_store.specs.Terms.{tree_with, AreDifferent}
 use Rattle.check_atoms.specs.Parts.{IsMarked}
 use Rattle.closure_log.specs.Parts.{IsWideXor, AreWideXorsBelow, AreWideXors}
 
-one_place : (ts : List Tree) (i j : ℕ) → AreDifferent ts → i < length ts → j < length ts → tree_at ts i ≡ tree_at ts j → i ≡ j
+pub one_place : (ts : List Tree) (i j : ℕ) → AreDifferent ts → i < length ts → j < length ts → tree_at ts i ≡ tree_at ts j → i ≡ j
 one_place ts i j d h k e = elim (cases_lt i j) [
   | inl less ↦ absurd (d i j less k e)
   | inr past ↦ elim (cases_lt j i) [
@@ -22,7 +22,7 @@ one_place ts i j d h k e = elim (cases_lt i j) [
 ]
 
 -- where no tree stands twice, the arguments' places are determined
-one_list : (ts : List Tree) → AreDifferent ts → (is js : List ℕ) → All (λ i. i < length ts) is → All (λ i. i < length ts) js → pick ts is ≡ pick ts js → is ≡ js
+pub one_list : (ts : List Tree) → AreDifferent ts → (is js : List ℕ) → All (λ i. i < length ts) is → All (λ i. i < length ts) js → pick ts is ≡ pick ts js → is ≡ js
 one_list ts d [] [] h k e = refl
 one_list ts d [] (j ∷ js) h k e = absurd cc
 one_list ts d (i ∷ is) [] h k e = absurd cc
@@ -36,10 +36,10 @@ one_list ts d (i ∷ is) (j ∷ js) h k e =
     tails : (t u : Tree) (ts us : Trees) → more t ts ≡ more u us → ts ≡ us
     tails t u ts us q = cc
 
-head_of : (h k : Head) (ts us : Trees) → node h ts ≡ node k us → h ≡ k
+pub head_of : (h k : Head) (ts us : Trees) → node h ts ≡ node k us → h ≡ k
 head_of h k ts us e = cc
 
-arguments_of : (h k : Head) (ts us : Trees) → node h ts ≡ node k us → ts ≡ us
+pub arguments_of : (h k : Head) (ts us : Trees) → node h ts ≡ node k us → ts ≡ us
 arguments_of h k ts us e = cc
 
 -- a wide `xor` stands among the terms

@@ -8,3 +8,5 @@ pub mod Odd
 pub mod Parts
 pub mod Read
 pub mod Distinct
+pub mod Whole
+pub mod ByClass

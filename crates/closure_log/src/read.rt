@@ -1,9 +1,11 @@
 //! What a log says of the terms of a part.
-ghost use Rattle.std.specs.Prelude.{◌≡◌, ◌∷◌, ◌++◌, [], ℕ, true, false, List, length, All, Contains, OnOk, IfOk, MatchOption};
+ghost use Rattle.std.specs.Prelude.{◌≡◌, ◌∷◌, ◌++◌, [], ℕ, Bool, true, false, List, length, All, Contains, OnOk, IfOk, IfSome, IfNone, MatchOption};
 ghost use Rattle.literals.specs.Signed.{opposite};
+ghost use Rattle.smt_meaning.specs.declared.clauses.Atom.TheVariants.{Truth};
 ghost use Rattle.smt_meaning.specs.Term.{xor};
 ghost use Rattle.closure_log.specs.Parts.{IsPlacedLog};
 ghost use Rattle.closure_log.specs.Read.{IsUntold, LacksOne, IsOpenTruth, IsToldTruth, IsSaid, IsRead};
+ghost use Rattle.closure_log.specs.Whole.{Gives};
 
 use crate::told_of;
 use atom_form::{AtomNumbers, CompactAtom};
@@ -34,6 +36,26 @@ pub(crate) fn said_of(atoms: &AtomNumbers, places: &[usize], log: &[Literal], te
     match told_of(places, log, number) {
         Some(literal) => Said::Told(literal),
         None => Said::Open(Literal::new(number, true)),
+    }
+}
+
+/// The literal of the log on the truth of a term.
+pub(crate) fn truth_told(
+    atoms: &AtomNumbers,
+    places: &[usize],
+    log: &[Literal],
+    term: TermId,
+) -> Option<Literal>
+    requires { IsPlacedLog atoms.now.atoms log.now places.now }
+    ensures some { IfSome result (IsToldTruth atoms.now.atoms log.now term) }
+    ensures one { IfSome result (λ l. (b : Bool) → Gives atoms.now.atoms log.now (Truth term) b → b ≡ l.positive) }
+    ensures none { IfNone result ((b : Bool) → Gives atoms.now.atoms log.now (Truth term) b → ⊥) }
+{
+    atoms.are_apart();
+    match said_of(atoms, places, log, term) {
+        Said::Nothing => None,
+        Said::Open(_) => None,
+        Said::Told(literal) => Some(literal),
     }
 }
 

@@ -28,7 +28,7 @@ pub struct ClosureLog {
 }
 
 /// A closure that has read the terms of a store. An `Err` is for want of memory.
-fn closure_of(alloc: Global, store: &TermStore) -> Result<Congruence, AllocError>
+pub(crate) fn closure_of(alloc: Global, store: &TermStore) -> Result<Congruence, AllocError>
     requires { length store.now.trees + 2 < 2 ^ 32 }
     ensures { IfOk result (IsReady store.now.trees) }
 {

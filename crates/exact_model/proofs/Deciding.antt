@@ -79,7 +79,7 @@ module _ (trees : List Tree) (marks : List Bool) (I : Interpretation) (values : 
 
 -- ---- a model of each state with this log
 
-are_models : (trees : List Tree) (marks : List Bool) (atoms : List Atom) (log : List Signed) (tables : List Table) → AreTrueIn trees atoms (meaning tables) log → AllMarkedFit trees marks (meaning tables)
+pub are_models : (trees : List Tree) (marks : List Bool) (atoms : List Atom) (log : List Signed) (tables : List Table) → AreTrueIn trees atoms (meaning tables) log → AllMarkedFit trees marks (meaning tables)
     → AreModels trees marks atoms log tables
 are_models trees marks atoms log tables h fit t about for asserted = record {
   tables_for = for;

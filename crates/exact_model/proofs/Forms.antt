@@ -77,10 +77,10 @@ module _ (w : ℕ → ℤ) where
   sum_times_at (pos (suc n)) ps = each_times_at (pos (suc n)) ps
   sum_times_at (negsuc n) ps = each_times_at (negsuc n) ps
 
-  form_times_at : (k : ℤ) (f : Form) → form_at w (form_times k f) ≡ k *ℤ form_at w f
+  pub form_times_at : (k : ℤ) (f : Form) → form_at w (form_times k f) ≡ k *ℤ form_at w f
   form_times_at k f = ap (λ z. z +ℤ k *ℤ f.constant) (sum_times_at k f.sum) ∙ sym (times-sum k (sum_at w f.sum) f.constant)
 
-  form_plus_at : (f g : Form) → form_at w (form_plus f g) ≡ form_at w f +ℤ form_at w g
+  pub form_plus_at : (f g : Form) → form_at w (form_plus f g) ≡ form_at w f +ℤ form_at w g
   form_plus_at f g =
       ap (λ z. z +ℤ (f.constant +ℤ g.constant)) (sums_added_at f.sum g.sum) ∙ regroup (sum_at w f.sum) (sum_at w g.sum) f.constant g.constant
     where
@@ -91,11 +91,11 @@ module _ (w : ℕ → ℤ) where
   minus_one (pos n) = ap (λ m. neg_ℤ (pos m)) (omega arith)
   minus_one (negsuc n) = ap pos (omega arith)
 
-  form_minus_at : (f g : Form) → form_at w (form_minus f g) ≡ form_at w f -ℤ form_at w g
+  pub form_minus_at : (f g : Form) → form_at w (form_minus f g) ≡ form_at w f -ℤ form_at w g
   form_minus_at f g = form_plus_at f (form_times (negsuc 0) g) ∙ ap (λ z. form_at w f +ℤ z) (form_times_at (negsuc 0) g ∙ minus_one (form_at w g))
 
   -- a form without summands has the value of its constant
-  bare_at : (f : Form) → f.sum ≡ [] → form_at w f ≡ f.constant
+  pub bare_at : (f : Form) → f.sum ≡ [] → form_at w f ≡ f.constant
   bare_at f e = ap (λ ps. sum_at w ps +ℤ f.constant) e ∙ zero_left f.constant
     where
       zero_left : (z : ℤ) → pos 0 +ℤ z ≡ z

@@ -1,9 +1,19 @@
 pub mod Forms
 pub mod Comparing
-mod Dividing
 pub mod Heads
+pub mod Leafs
 pub mod Spreading
 pub mod Deciding
 pub mod Giving
-pub mod Showing
 pub mod Listing
+pub mod Ending
+pub mod NormalBounds
+pub mod FullLogs
+pub mod BoolParts
+pub mod OrderParts
+pub mod PartSorts
+pub mod EqualityParts
+pub mod DivisionParts
+pub mod DecidedParts
+pub mod Meeting
+pub mod Formed

@@ -58,3 +58,24 @@ are_values trees marks I values size all = record {
 
 pub marked_fit : (trees : List Tree) (marks : List Bool) (I : Interpretation) → All (λ p. IsTrue (fits I (tree_at trees p))) (marked_places marks) → AllMarkedFit trees marks I
 marked_fit trees marks I all p m = All-contains (λ q. IsTrue (fits I (tree_at trees q))) (marked_places marks) p all (subst (Contains (marked_places marks)) (omega arith) (marked_stands 0 marks p m))
+
+-- a place from a number on, which is marked
+abbrev IsMarkedFrom : ℕ → List Bool → ℕ → Type 0
+IsMarkedFrom k marks q = (j : ℕ) × (q ≡ k + j) × (is_marked marks j ≡ true)
+
+one_more : (k : ℕ) (b : Bool) (marks : List Bool) (q : ℕ) → IsMarkedFrom (suc k) marks q → IsMarkedFrom k (b ∷ marks) q
+one_more k b marks q h = let e = h.1 in (suc h.0, omega (arith, e), h.2)
+
+marked_from_are : (k : ℕ) (marks : List Bool) → All (IsMarkedFrom k marks) (marked_from k marks)
+marked_from_are k [] = All-nil (IsMarkedFrom k [])
+marked_from_are k (true ∷ marks) =
+    All-cons (IsMarkedFrom k (true ∷ marks)) k (marked_from (suc k) marks) (0, omega arith, refl)
+    (All-weaker (IsMarkedFrom (suc k) marks) (IsMarkedFrom k (true ∷ marks)) (one_more k true marks) (marked_from (suc k) marks) (marked_from_are (suc k) marks))
+marked_from_are k (false ∷ marks) =
+    All-weaker (IsMarkedFrom (suc k) marks) (IsMarkedFrom k (false ∷ marks)) (one_more k false marks) (marked_from (suc k) marks) (marked_from_are (suc k) marks)
+
+pub marked_are : (marks : List Bool) → All (λ p. is_marked marks p ≡ true) (marked_places marks)
+marked_are marks = All-weaker (IsMarkedFrom 0 marks) (λ p. is_marked marks p ≡ true) here (marked_places marks) (marked_from_are 0 marks)
+  where
+    here : (p : ℕ) → IsMarkedFrom 0 marks p → is_marked marks p ≡ true
+    here p h = let e = h.1 in subst (λ q. is_marked marks q ≡ true) (omega (arith, e)) h.2

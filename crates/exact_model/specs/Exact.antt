@@ -1,18 +1,20 @@
 -- Exact values of terms: those of sums aren't bounded.
-use Rattle.std.specs.Prelude.{◌≡◌, ℕ, ◌<◌, Bool, true, false, List, length, ℤ, slice_index_or, if◌then◌else◌}
+use Rattle.std.specs.Prelude.{◌≡◌, ℕ, ◌<◌, Bool, true, false, List, length, ℤ, Some, slice_index_or, if◌then◌else◌}
 use Rattle.smt_meaning.specs.declared.values.Value.{Value}
 use Rattle.smt_meaning.specs.declared.values.Value.TheVariants.{Truth, Whole}
 use Rattle.smt_meaning.specs.declared.values.Sort.{Sort}
 use Rattle.smt_meaning.specs.declared.values.Sort.TheVariants.{Bool as Truths}
 use Rattle.smt_meaning.specs.Term.{Tree, node, tree_at, number_of, in_range}
 use Rattle.smt_meaning.specs.TreeShape.{place_of}
-use Rattle.smt_meaning.specs.Linear.{linear_form}
+use Rattle.smt_meaning.specs.Declaration.{Declaration}
+use Rattle.smt_meaning.specs.Signature.{tree_sort}
+use Rattle.smt_meaning.specs.Linear.{linear_form, folding_fits}
 use Rattle.smt_meaning.specs.CheckAtoms.{is_leaf, is_leaf_head}
 use Rattle.smt_meaning.specs.Ranges.{form_at}
 use Rattle.linear_forms.specs.Table.{Known, AreForms}
 use Rattle.model_build.specs.declared.given.Given.{Given}
 use Rattle.model_build.specs.declared.given.Given.TheVariants.{Unmarked, InRange, PastRange}
-use Rattle.model_build.specs.Given.{given_at, is_marked, is_past}
+use Rattle.model_build.specs.Given.{given_at, is_past}
 use Rattle.model_build.specs.Building.{is_given_of, HasOperatorsValue}
 
 -- the value that is listed for a place
@@ -43,32 +45,41 @@ is_marked_in marks p = slice_index_or marks p false
 abbrev pub given_of : Value → Given
 given_of v = if in_range v then InRange v else PastRange
 
--- what a place is given: the exact value of its term, of the kept sort, where it is marked, which only a sum's may be past the range; and else nothing
+-- what a place is given by its mark: the exact value of its term, or nothing
+abbrev pub given_there : List Tree → List Bool → List Value → ℕ → Given
+given_there ts marks vs p = if is_marked_in marks p then given_of (exact_at ts vs p) else Unmarked
+
+-- that is of the kept sort where the place is marked, and only a sum's is past the range
 pub record IsPlaceGiven (ts : List Tree) (marks : List Bool) (sorts : List Sort) (vs : List Value) (p : ℕ) (g : Given) : Type 0 where
-  pub exact : g ≡ (if is_marked_in marks p then given_of (exact_at ts vs p) else Unmarked)
+  pub exact : g ≡ given_there ts marks vs p
   pub sorted : is_marked_in marks p ≡ true → is_given_of g (slice_index_or sorts p Truths) ≡ true
   pub inside : is_leaf (tree_at ts p) ≡ true → is_past g ≡ false
 
-abbrev pub AllGiven : List Tree → List Bool → List Sort → List Value → ℕ → List Given → Type 0
-AllGiven ts marks sorts vs count gs = (p : ℕ) → p < count → IsPlaceGiven ts marks sorts vs p (given_at gs p)
-
 pub record AreGivenExactly (ts : List Tree) (marks : List Bool) (sorts : List Sort) (vs : List Value) (gs : List Given) : Type 0 where
   pub size : length gs ≡ length ts
-  pub each : AllGiven ts marks sorts vs (length ts) gs
+  pub each : (p : ℕ) → p < length ts → IsPlaceGiven ts marks sorts vs p (given_at gs p)
+
+-- ---- what it needs that each place can be given its term's exact value
+
+-- the value that is listed for a marked place is of its term's sort, and in the range
+abbrev pub MayBeGiven : List Declaration → List Tree → List Bool → List Value → Type 0
+MayBeGiven ds ts marks vs =
+    (p : ℕ) (r : Sort) → p < length ts → is_marked_in marks p ≡ true → tree_sort ds (tree_at ts p) ≡ Some r → is_given_of (InRange (listed vs p)) r ≡ true
+
+-- the folding of each marked term's form stays in the range
+abbrev pub AllFold : List Tree → List Bool → Type 0
+AllFold ts marks = (p : ℕ) → is_marked_in marks p ≡ true → folding_fits ts (tree_at ts p) ≡ true
+
+-- each marked term has the exact value that its operator makes
+abbrev pub HaveOperatorsValues : List Tree → List Bool → List Value → Type 0
+HaveOperatorsValues ts marks vs = (p : ℕ) → is_marked_in marks p ≡ true → HasOperatorsValue (exact ts vs) (tree_at ts p)
 
 -- ---- no public contract speaks of it
 
--- a place that is given its term's exact value
-pub record IsSeen (ts : List Tree) (vs : List Value) (gs : List Given) (p : ℕ) : Type 0 where
-  pub within : p < length ts
-  pub given_within : p < length gs
-  pub value : given_at gs p ≡ given_of (exact_at ts vs p)
+-- the first places are given so
+abbrev pub AllGiven : List Tree → List Bool → List Value → ℕ → List Given → Type 0
+AllGiven ts marks vs count gs = (p : ℕ) → p < count → given_at gs p ≡ given_there ts marks vs p
 
--- each place that is given something is given its term's exact value
-pub record GiveExact (ts : List Tree) (vs : List Value) (gs : List Given) : Type 0 where
+pub record ArePlacesGiven (ts : List Tree) (marks : List Bool) (vs : List Value) (gs : List Given) : Type 0 where
   pub size : length gs ≡ length ts
-  pub each : (p : ℕ) → p < length ts → is_marked (given_at gs p) ≡ true → given_at gs p ≡ given_of (exact_at ts vs p)
-
--- of the first places, each that is given something has a term with the value that its operator makes
-abbrev pub HaveOperatorsValues : List Tree → List Value → List Given → ℕ → Type 0
-HaveOperatorsValues ts vs gs count = (p : ℕ) → p < count → is_marked (given_at gs p) ≡ true → HasOperatorsValue (exact ts vs) (tree_at ts p)
+  pub each : AllGiven ts marks vs (length ts) gs

@@ -4,6 +4,6 @@ pub mod Sums
 pub mod Places
 pub mod Atoms
 pub mod Verdict
+pub mod Fitting
 pub mod Leaves
-pub mod Shown
-pub mod Seeing
+pub mod Ends

@@ -1,22 +1,23 @@
 //! Values of leaves, from the variables of bounds.
-ghost use Rattle.std.specs.Prelude.{◌≡◌, ◌<◌, true, length, IfOk, IfSome, slice_index_or};
-ghost use Rattle.fraction128.specs.Number.{whole};
+ghost use Rattle.std.specs.Prelude.{◌≡◌, ℕ, ◌<◌, true, false, length, IfOk, slice_index_or};
 ghost use Rattle.smt_meaning.specs.declared.values.Value.TheVariants.{Whole as WholeOf};
 ghost use Rattle.smt_meaning.specs.declared.values.Sort.TheVariants.{Bool as Truths, Int as Ints};
-ghost use Rattle.smt_meaning.specs.Term.{tree_at, number_of};
+ghost use Rattle.smt_meaning.specs.Term.{tree_at, in_range};
 ghost use Rattle.smt_meaning.specs.CheckAtoms.{is_leaf, is_leaf_head};
-ghost use Rattle.smt_meaning.specs.Ranges.{HasValue};
+ghost use Rattle.smt_meaning.specs.Stack.{signature_of};
 ghost use Rattle.model_eval.specs.Walk.{is_marked};
+ghost use Rattle.model_build.specs.Parts.{AreSortedParts};
+ghost use Rattle.sum_bounds.specs.Bounds.{AreWhole};
+ghost use Rattle.sum_bounds.specs.Written.{HasLeaf};
 ghost use Rattle.bound_log.specs.Pending.{plain_grid};
-ghost use Rattle.exact_model.specs.Leaves.{HaveLeafValues};
+ghost use Rattle.exact_model.specs.Exact.{MayBeGiven};
+ghost use Rattle.exact_model.specs.Leaves.{IsIntLeaf, IsListedNumber, IsListedBy, AreListedBy, HaveLeafValues};
 
-use crate::Unshown;
 use bound_log::BoundLog;
 use fraction128::Fraction;
-use model_build::PlaceValues;
 use scope_stack::Stack;
 use smt_meaning::{Head, Operator, Sort, TermId, Value};
-use std::alloc::Global;
+use std::alloc::{AllocError, Global};
 use term_store::TermStore;
 
 /// Whether a term with this head is no numeral, sum, difference or product.
@@ -43,51 +44,53 @@ pub(crate) fn is_marked_place(marks: &[bool], place: TermId) -> bool
 
 /// The numerator as a value.
 fn whole_of(value: &Fraction) -> Value
-    ensures { result ≡ WholeOf value.now.numerator }
+    ensures whole { result ≡ WholeOf value.now.numerator }
+    ensures in_range { in_range result ≡ true }
 {
     Value::Whole(value.numerator())
 }
 
-/// The value of a term's variable, if it is whole.
-fn leaf_value(bounds: &BoundLog, place: TermId) -> Result<Value, Unshown>
-    ensures { IfOk result (λ v. HasValue (plain_grid bounds.now) place (whole (number_of v))) }
+/// The value of a term's variable, where the terms' values are whole.
+fn leaf_value(bounds: &BoundLog, place: TermId) -> Value
+    requires variable { HasLeaf bounds.now.bounds.columns place }
+    requires wholes { AreWhole bounds.now.bounds }
+    ensures { IsListedNumber bounds.now place true result }
 {
     bounds.facts();
-    if !bounds.has_leaf(place) {
-        return Err(Unshown::Other);
-    }
-    match bounds.value(place) {
-        Some(value) => {
-            if value.is_whole() {
-                Ok(whole_of(&value))
-            } else {
-                Err(Unshown::Other)
-            }
-        }
-        None => Err(Unshown::Other),
-    }
+    let value = bounds.value(place).unwrap();
+    whole_of(&value)
 }
 
 /// The value of an Int: of a leaf that of its variable, and else any.
-fn int_value(bounds: &BoundLog, head: Head, place: TermId) -> Result<Value, Unshown>
-    ensures { IfOk result (λ v. is_leaf_head head ≡ true → HasValue (plain_grid bounds.now) place (whole (number_of v))) }
+fn int_value(bounds: &BoundLog, head: Head, place: TermId) -> Value
+    requires variable { is_leaf_head head ≡ true → HasLeaf bounds.now.bounds.columns place }
+    requires wholes { AreWhole bounds.now.bounds }
+    ensures { IsListedNumber bounds.now place (is_leaf_head head) result }
 {
     if is_leaf(head) {
-        let value = leaf_value(bounds, place)?;
-        Ok(value)
+        leaf_value(bounds, place)
     } else {
-        Ok(Value::Whole(0))
+        Value::Whole(0)
     }
 }
 
-/// The value of a term that is no Int.
-fn chosen(sort: Sort, truth: bool, element: u32) -> Option<Value>
-    ensures { IfSome result (λ v. sort ≡ Ints → ⊥) }
+/// The value of a marked term of this sort.
+fn listed_value(
+    bounds: &BoundLog,
+    head: Head,
+    sort: Sort,
+    truth: bool,
+    element: u32,
+    place: TermId,
+) -> Value
+    requires variable { sort ≡ Ints → is_leaf_head head ≡ true → HasLeaf bounds.now.bounds.columns place }
+    requires wholes { AreWhole bounds.now.bounds }
+    ensures { IsListedBy bounds.now place (is_leaf_head head) truth element sort result }
 {
     match sort {
-        Sort::Bool => Some(Value::Truth(truth)),
-        Sort::Int => None,
-        Sort::Free(_) => Some(Value::Element(element as u64)),
+        Sort::Bool => Value::Truth(truth),
+        Sort::Int => int_value(bounds, head, place),
+        Sort::Free(_) => Value::Element(element as u64),
     }
 }
 
@@ -97,49 +100,52 @@ fn value_of(
     marks: &[bool],
     sorts: &[Sort],
     bounds: &BoundLog,
-    values: &PlaceValues<'_>,
+    truths: &[bool],
+    elements: &[u32],
     place: TermId,
-) -> Result<Value, Unshown>
+) -> Value
     requires within { place < length store.now.trees }
     requires sorts { length sorts.now ≡ length store.now.trees }
-    requires truths { length values.now.truths.now ≡ length store.now.trees }
-    requires elements { length values.now.elements.now ≡ length store.now.trees }
-    ensures { IfOk result (λ v. is_marked marks.now place ≡ true → slice_index_or sorts.now place Truths ≡ Ints → is_leaf (tree_at store.now.trees place) ≡ true → HasValue (plain_grid bounds.now) place (whole (number_of v))) }
+    requires truths { length truths.now ≡ length store.now.trees }
+    requires elements { length elements.now ≡ length store.now.trees }
+    requires variable { is_marked marks.now place ≡ true → slice_index_or sorts.now place Truths ≡ Ints → is_leaf (tree_at store.now.trees place) ≡ true → HasLeaf bounds.now.bounds.columns place }
+    requires wholes { AreWhole bounds.now.bounds }
+    ensures { is_marked marks.now place ≡ true → IsListedBy bounds.now place (is_leaf (tree_at store.now.trees place)) (slice_index_or truths.now place false) (slice_index_or elements.now place 0) (slice_index_or sorts.now place Truths) result }
 {
     if !is_marked_place(marks, place) {
-        return Ok(Value::Truth(false));
+        return Value::Truth(false);
     }
     let at = place as usize;
-    match chosen(sorts[at], values.truths[at], values.elements[at]) {
-        Some(value) => Ok(value),
-        None => {
-            let value = int_value(bounds, store.node(place).head, place)?;
-            Ok(value)
-        }
-    }
+    let head = store.node(place).head;
+    listed_value(bounds, head, sorts[at], truths[at], elements[at], place)
 }
 
-/// The values that are listed for the places: of leaves those of their variables, and of other terms the given ones. An `Err` says that a marked leaf has no variable,
-/// or one whose value isn't whole.
-pub(crate) fn listed_values(
+/// The values that are listed for the places: of Int leaves those of their variables, and of Bools and of elements of declared sorts the given ones. An `Err` is for want of
+/// memory.
+pub fn listed_values(
     alloc: Global,
     stack: &Stack,
     marks: &[bool],
     bounds: &BoundLog,
-    values: &PlaceValues<'_>,
-) -> Result<Vec<Value>, Unshown>
-    requires truths { length values.now.truths.now ≡ length stack.now.trees }
-    requires elements { length values.now.elements.now ≡ length stack.now.trees }
+    truths: &[bool],
+    elements: &[u32],
+) -> Result<Vec<Value>, AllocError>
+    requires parts { AreSortedParts (signature_of stack.now.frames) stack.now.trees marks.now }
+    requires truths { length truths.now ≡ length stack.now.trees }
+    requires elements { length elements.now ≡ length stack.now.trees }
+    requires variables { (p : ℕ) → IsIntLeaf stack.now marks.now p → HasLeaf bounds.now.bounds.columns p }
+    requires wholes { AreWhole bounds.now.bounds }
     ensures size { IfOk result (λ vs. length vs.items ≡ length stack.now.trees) }
-    ensures values { IfOk result (λ vs. HaveLeafValues stack.now marks.now (plain_grid bounds.now) (length stack.now.trees) vs.items) }
+    ensures values { IfOk result (λ vs. AreListedBy stack.now marks.now bounds.now truths.now elements.now (length stack.now.trees) vs.items) }
+    ensures may_be { IfOk result (λ vs. MayBeGiven (signature_of stack.now.frames) stack.now.trees marks.now vs.items) }
+    ensures have { IfOk result (λ vs. HaveLeafValues stack.now marks.now (plain_grid bounds.now) (length stack.now.trees) vs.items) }
 {
     let store = stack.terms();
     let sorts = stack.sorts();
     let _different = store.len();
     let mut listed = Vec::new(alloc);
     for place in 0..store.len() {
-        let value = value_of(store, marks, sorts, bounds, values, place)?;
-        listed.push(value)?;
+        listed.push(value_of(store, marks, sorts, bounds, truths, elements, place))?;
     }
     Ok(listed)
 }

@@ -71,8 +71,7 @@ module _ (s : Stack) (marks : List Bool) (sorts : List Sort) (table : List Atom)
   listed_bool : (p : ℕ) → IsMarked marks p → is_bool_at ds s.trees p ≡ true → sort_at sorts p ≡ Truths
   listed_bool p m b = is_bool_sort (sort_at sorts p) (sym (ap is_bool (sort_there p m)) ∙ b)
 
-  module _ (force : NodeClausesForce) (rename : NodeClausesRenamed) (clauses : List Kept) (has : HasParts s marks sorts table clauses) (known : List (List Signed))
-      (among : (c : Kept) → Contains clauses c → Contains known c.literals) where
+  module _ (clauses : List Kept) (has : HasParts s marks sorts table clauses) where
     bools_at : (p : ℕ) (is : List ℕ) → IsMarked marks p → All (IsMarked marks) is → is_bool_at ds s.trees p ≡ true → All (λ i. is_bool_at ds s.trees i ≡ true) is → AreBools sorts (p ∷ is)
     bools_at p is m ms b bs = All-cons (λ q. sort_at sorts q ≡ Truths) p is (listed_bool p m b) (λ k d l. listed_bool (get_or is k d) (ms k d l) (bs k d l))
 
@@ -81,7 +80,7 @@ module _ (s : Stack) (marks : List Bool) (sorts : List Sort) (table : List Atom)
     marked_at n p at = All-head (IsMarked marks) p [] (subst (λ (a : Atom). All (IsMarked marks) (atom_places a)) (at.1 (Truth 0)) (atoms.over_parts n (Truth 0) at.0))
 
     -- the clauses of a negation are kept
-    negations : KeepNegations s.trees table clauses
+    pub negations : KeepNegations s.trees table clauses
     negations n m h =
         let p = h.place in
         let is = h.argument ∷ [] in
@@ -97,40 +96,41 @@ module _ (s : Stack) (marks : List Bool) (sorts : List Sort) (table : List Atom)
         subst (λ xs. All (IsKeptTurned s.trees table clauses) (literals_of_node Not n xs)) others
         (subst (λ t. All (IsKeptTurned s.trees table clauses) (literals_of_node Not t truths.numbers)) own truths.kept)
 
-    -- the kept clauses of a node of Bools force a clause of it
-    truths_force : (p : ℕ) (o : Operator) (is : List ℕ) (ss : List Sign) → p < length s.trees → All (λ i. i < length s.trees) is → tree_at s.trees p ≡ tree_with s.trees (Theory o) is
-        → HasTruths s.trees table clauses p o is → IsBoolNode ds s.trees o is → HasClauseAt s.trees law.in_order ds o p is ss → IsForced table known ss
-    truths_force p o is ss here inside tree h is_so c =
-        let other : Contains is p → ⊥ = not_own s.trees law.in_order p (Theory o) is here tree in
-        let own : HasNumber table p = found table p (contained table h.number (Truth p) h.here) in
-        let number : h.number ≡ number_of table p = number_is table h.number p atoms.apart h.here in
-        let kept : All (IsKeptTurned s.trees table clauses) (literals_of_node o (number_of table p) h.numbers) = subst (λ n. All (IsKeptTurned s.trees table clauses) (literals_of_node o n h.numbers)) number h.kept in
-        let each : (d : List Signed) → Contains (map (map (numbered table)) (node_clauses o p is)) d → IsKeptTurned s.trees table clauses d =
-        each_numbered table rename (IsKeptTurned s.trees table clauses) (length s.trees) p o is h.numbers inside (numbers_are table is h.numbers atoms.apart h.are) kept in
-        is_forced table known p o is ss other c.clause own (numbers_found table is h.numbers h.are)
-        (forces_turned s.trees table clauses negations known among (map (map (numbered table)) (node_clauses o p is)) each (map (numbered table) ss)
-        (forces_numbered table force p o is ss (fits_of s.trees ds o is is_so.stands c.has) other c.clause))
+    module _ (force : NodeClausesForce) (rename : NodeClausesRenamed) (known : List (List Signed)) (among : (c : Kept) → Contains clauses c → Contains known c.literals) where
+      -- the kept clauses of a node of Bools force a clause of it
+      truths_force : (p : ℕ) (o : Operator) (is : List ℕ) (ss : List Sign) → p < length s.trees → All (λ i. i < length s.trees) is → tree_at s.trees p ≡ tree_with s.trees (Theory o) is
+          → HasTruths s.trees table clauses p o is → IsBoolNode ds s.trees o is → HasClauseAt s.trees law.in_order ds o p is ss → IsForced table known ss
+      truths_force p o is ss here inside tree h is_so c =
+          let other : Contains is p → ⊥ = not_own s.trees law.in_order p (Theory o) is here tree in
+          let own : HasNumber table p = found table p (contained table h.number (Truth p) h.here) in
+          let number : h.number ≡ number_of table p = number_is table h.number p atoms.apart h.here in
+          let kept : All (IsKeptTurned s.trees table clauses) (literals_of_node o (number_of table p) h.numbers) = subst (λ n. All (IsKeptTurned s.trees table clauses) (literals_of_node o n h.numbers)) number h.kept in
+          let each : (d : List Signed) → Contains (map (map (numbered table)) (node_clauses o p is)) d → IsKeptTurned s.trees table clauses d =
+          each_numbered table rename (IsKeptTurned s.trees table clauses) (length s.trees) p o is h.numbers inside (numbers_are table is h.numbers atoms.apart h.are) kept in
+          is_forced table known p o is ss other c.clause own (numbers_found table is h.numbers h.are)
+          (forces_turned s.trees table clauses negations known among (map (map (numbered table)) (node_clauses o p is)) each (map (numbered table) ss)
+          (forces_numbered table force p o is ss (fits_of s.trees ds o is is_so.stands c.has) other c.clause))
 
-    part_forced : (p : ℕ) (o : Operator) (us : Trees) (ss : List Sign) (is : List ℕ) → IsMarked marks p → tree_at s.trees p ≡ node (Theory o) us → All (λ i. i < length s.trees) is
-        → tree_at s.trees p ≡ tree_with s.trees (Theory o) is → IsClauseOf s.trees ds o us ss → IsForced table known ss
-    part_forced p o us ss is m e inside tree c =
-        let here : p < length s.trees = within s marks law parts atoms.size p m in
-        let clause : HasClauseAt s.trees law.in_order ds o p is ss = clause_at s.trees law.in_order ds p o us is ss here inside e tree c in
-        let is_so : IsBoolNode ds s.trees o is = is_node ds s.trees o is (sort_at sorts p) (sym (ap (tree_sort ds) tree) ∙ sort_there p m) clause.has in
-        let bool : is_bool_at ds s.trees p ≡ true = ap (λ t. is_bool (tree_sort ds t)) tree ∙ is_so.bool in
-        let marked : All (IsMarked marks) is = arguments_marked s marks law parts atoms.size p (Theory o) is m tree inside in
-        let bools : AreBools sorts (p ∷ is) = bools_at p is m marked bool is_so.bools in
-        let part = has p o is m (record { within = here; tree = tree; arguments = inside }) in
-        truths_force p o is ss here inside tree (part.of_bools bools) is_so clause
+      part_forced : (p : ℕ) (o : Operator) (us : Trees) (ss : List Sign) (is : List ℕ) → IsMarked marks p → tree_at s.trees p ≡ node (Theory o) us → All (λ i. i < length s.trees) is
+          → tree_at s.trees p ≡ tree_with s.trees (Theory o) is → IsClauseOf s.trees ds o us ss → IsForced table known ss
+      part_forced p o us ss is m e inside tree c =
+          let here : p < length s.trees = within s marks law parts atoms.size p m in
+          let clause : HasClauseAt s.trees law.in_order ds o p is ss = clause_at s.trees law.in_order ds p o us is ss here inside e tree c in
+          let is_so : IsBoolNode ds s.trees o is = is_node ds s.trees o is (sort_at sorts p) (sym (ap (tree_sort ds) tree) ∙ sort_there p m) clause.has in
+          let bool : is_bool_at ds s.trees p ≡ true = ap (λ t. is_bool (tree_sort ds t)) tree ∙ is_so.bool in
+          let marked : All (IsMarked marks) is = arguments_marked s marks law parts atoms.size p (Theory o) is m tree inside in
+          let bools : AreBools sorts (p ∷ is) = bools_at p is m marked bool is_so.bools in
+          let part = has p o is m (record { within = here; tree = tree; arguments = inside }) in
+          truths_force p o is ss here inside tree (part.of_bools bools) is_so clause
 
-    forces_parts : ForcesParts s table known
-    forces_parts o us ss part c =
-        let at = parts.each (node (Theory o) us) part in
-        let p : Picked s.trees us = arguments_at s.trees law.in_order at.0 (Theory o) us (within s marks law parts atoms.size at.0 at.1) at.2 in
-        part_forced at.0 o us ss p.places at.1 at.2 p.within (at.2 ∙ ap (node (Theory o)) (sym p.are)) c
+      forces_parts : ForcesParts s table known
+      forces_parts o us ss part c =
+          let at = parts.each (node (Theory o) us) part in
+          let p : Picked s.trees us = arguments_at s.trees law.in_order at.0 (Theory o) us (within s marks law parts atoms.size at.0 at.1) at.2 in
+          part_forced at.0 o us ss p.places at.1 at.2 p.within (at.2 ∙ ap (node (Theory o)) (sym p.are)) c
 
 pub kept_parts_forced : NodeClausesForce → NodeClausesRenamed → KeptPartsAreForced
-kept_parts_forced force rename s marks sorts table clauses known law parts atoms sorted has among = forces_parts s marks sorts table law parts atoms sorted force rename clauses has known among
+kept_parts_forced force rename s marks sorts table clauses known law parts atoms sorted has among = forces_parts s marks sorts table law parts atoms sorted clauses has force rename known among
 
 pub more_forced : MoreForceParts
 more_forced s table known more stay forces o us ss part c =

@@ -13,6 +13,9 @@ pub mod CheckClausesKeeping
 pub mod Forcing
 pub mod StandingTerms
 pub mod Standing
+pub mod Holding
+pub mod Agreeing
+pub mod HoldingExamples
 mod Sound
 pub mod Counting
 pub mod StepExamples

@@ -23,18 +23,18 @@ yes n = record { atom = n; positive = true }
 abbrev no : ℕ → Signed
 no n = record { atom = n; positive = false }
 
-in_first : {X : Type 0} (x : X) (xs : List X) → Contains (x ∷ xs) x
+pub in_first : {X : Type 0} (x : X) (xs : List X) → Contains (x ∷ xs) x
 in_first x xs = Contains-append_left (x ∷ []) xs x (Contains-push [] x)
 
-in_second : {X : Type 0} (x y : X) (xs : List X) → Contains (x ∷ y ∷ xs) y
+pub in_second : {X : Type 0} (x y : X) (xs : List X) → Contains (x ∷ y ∷ xs) y
 in_second x y xs = Contains-append_right (x ∷ []) (y ∷ xs) y (in_first y xs)
 
-only : {X : Type 0} (x y : X) → Contains (x ∷ []) y → x ≡ y
+pub only : {X : Type 0} (x y : X) → Contains (x ∷ []) y → x ≡ y
 only x y c = elim (Contains-push_cases [] x y c) [ inl none ↦ absurd (omega (arith, none.1)) | inr e ↦ e ]
 
 -- ---- the two clauses of a negation
 
-both_clauses : (n m : ℕ) → (Contains (literals_of_node Not n (m ∷ [])) (yes n ∷ yes m ∷ [])) × (Contains (literals_of_node Not n (m ∷ [])) (no n ∷ no m ∷ []))
+pub both_clauses : (n m : ℕ) → (Contains (literals_of_node Not n (m ∷ [])) (yes n ∷ yes m ∷ [])) × (Contains (literals_of_node Not n (m ∷ [])) (no n ∷ no m ∷ []))
 unfolding literals_of_node
 both_clauses n m = (in_first (yes n ∷ yes m ∷ []) ((no n ∷ no m ∷ []) ∷ []), in_second (yes n ∷ yes m ∷ []) (no n ∷ no m ∷ []) [])
 

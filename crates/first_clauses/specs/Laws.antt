@@ -7,7 +7,8 @@ use Rattle.smt_meaning.specs.declared.clauses.Atom.{Atom}
 use Rattle.smt_meaning.specs.Term.{Interpretation}
 use Rattle.smt_meaning.specs.Stack.{signature_of, Holds, HasNoModel}
 use Rattle.smt_meaning.specs.StackCommand.{Stack}
-use Rattle.search_port.specs.State.{Reading, IsGrown, IsConsistent, IsMadeTrue, truth}
+use Rattle.smt_laws.specs.Flat.{flat}
+use Rattle.search_port.specs.State.{Reading, IsGrown, IsFull, IsConsistent, IsMadeTrue, truth}
 use Rattle.search_port.specs.Valid.{FollowsAt}
 use Rattle.scope_stack.specs.Facts.{AreSorts}
 use Rattle.scope_stack.specs.Shown.{IsLawful}
@@ -16,6 +17,7 @@ use Rattle.check_atoms.specs.OfStack.{AreCheckAtoms}
 use Rattle.check_atoms.specs.Standing.{StandingHolds}
 use Rattle.first_clauses.specs.PartClausesFirst.{ForcesParts}
 use Rattle.first_clauses.specs.CheckClausesFirst.{reading_of, IsFirst, HasParts}
+use Rattle.first_clauses.specs.Holding.{IsDecided, PartsHold, IsAgreed}
 
 -- each of these clauses is true under the interpretation
 abbrev pub MakesTrue : Reading → Interpretation → List Kept → Type 0
@@ -50,3 +52,23 @@ FirstClausesSayStanding =
     (s : Stack) (marks : List Bool) (sorts : List Sort) (table : List Atom) (first : Stored) (q : Reading) (log : List Signed) → IsLawful s → AreStackParts s marks → AreCheckAtoms s marks table
     → AreSorts (signature_of s.frames) s.trees (length s.trees) sorts → IsFirst s table first → HasParts s marks sorts table first.clauses → IsGrown (reading_of s table) q → IsConsistent log
     → ((k : Kept) → Contains first.clauses k → IsMadeTrue log k.literals) → StandingHolds q log
+
+-- a full and consistent log that makes them true decides each part
+abbrev pub FirstClausesDecideParts : Type 0
+FirstClausesDecideParts =
+    (s : Stack) (marks : List Bool) (sorts : List Sort) (table : List Atom) (first : Stored) (q : Reading) (log : List Signed) → IsLawful s → AreStackParts s marks → AreCheckAtoms s marks table
+    → AreSorts (signature_of s.frames) s.trees (length s.trees) sorts → IsFirst s table first → HasParts s marks sorts table first.clauses → IsGrown (reading_of s table) q → IsFull q log → IsConsistent log
+    → ((k : Kept) → Contains first.clauses k → IsMadeTrue log k.literals) → IsDecided s marks sorts q.table log
+
+-- so it agrees
+abbrev pub FirstClausesAgree : Type 0
+FirstClausesAgree =
+    (s : Stack) (marks : List Bool) (sorts : List Sort) (table : List Atom) (first : Stored) (q : Reading) (log : List Signed) → IsLawful s → AreStackParts s marks → AreCheckAtoms s marks table
+    → AreSorts (signature_of s.frames) s.trees (length s.trees) sorts → IsFirst s table first → HasParts s marks sorts table first.clauses → IsGrown (reading_of s table) q → IsFull q log → IsConsistent log
+    → ((k : Kept) → Contains first.clauses k → IsMadeTrue log k.literals) → IsAgreed q log
+
+-- what a log decides of the parts of a stack it decides of those of each stack with the same terms and levels, by whatever marks and sorts
+abbrev pub PartsHoldOfEach : Type 0
+PartsHoldOfEach =
+    (r : Reading) (log : List Signed) (s : Stack) (marks : List Bool) (sorts : List Sort) → PartsHold r log → s.trees ≡ r.trees → flat s.frames ≡ r.frames → IsLawful s → AreStackParts s marks
+    → length marks ≡ length s.trees → AreSorts (signature_of s.frames) s.trees (length s.trees) sorts → IsDecided s marks sorts r.table log

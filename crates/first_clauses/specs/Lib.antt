@@ -3,6 +3,7 @@ pub mod Turned
 pub mod Numbers
 pub mod Triangles
 pub mod CheckClausesFirst
+pub mod Holding
 pub mod Laws
 pub mod Kept
 pub mod Counted

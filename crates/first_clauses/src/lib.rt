@@ -13,6 +13,12 @@
 //! `first_clauses_say_standing`: what makes them true has a bound of each list that stands whatever is
 //! decided, the bounds that conjuncts of assertions say and the clauses of divisions.
 //!
+//! `first_clauses_decide_parts`: a full log that makes them true gives each node of Bools the truth
+//! value that its operator makes of those that it gives the arguments, and makes the clauses of the
+//! other parts true. `first_clauses_agree`: this and what stands are what a theory is told at its
+//! last check. `parts_hold_of_each`: the parts are decided of each stack with the same terms and
+//! levels, whichever the theory has.
+//!
 //! `check_clauses_counted`: the same, with a count of steps, one for each part and one for each pair
 //! that a `distinct` among them compares: where the clauses come, exactly as many as there are parts
 //! and pairs that they are over.
@@ -37,7 +43,9 @@ mod turn;
 pub use clauses::{check_clauses, check_clauses_counted};
 pub use kept_axioms_keep::keep_axioms;
 pub use laws::{
-    empty_clause_means_no_model, first_clauses_say_assertions, first_clauses_say_standing,
-    kept_parts_are_forced, more_force_parts, signature_stays, steps_are_counted,
+    empty_clause_means_no_model, first_clauses_agree, first_clauses_decide_parts,
+    first_clauses_say_assertions, first_clauses_say_standing, kept_parts_are_forced,
+    more_force_parts, negations_are_decided, parts_hold_of_each, signature_stays,
+    steps_are_counted,
 };
 pub use storing::{keep, keep_all};

@@ -5,7 +5,7 @@ ghost use Rattle.worker.specs.Outcome.{IsReportOf, ReportsMemory};
 ghost use Rattle.portfolio.specs.Jobs.{IsFreshPass, IsReady, IsDone, HasTaken, job_worker};
 
 use check_atoms::{atoms_are_first, numbered, takes};
-use first_clauses::{check_clauses, first_clauses_say_standing, keep_axioms};
+use first_clauses::{check_clauses, first_clauses_agree, keep_axioms};
 use ports::Gate;
 use race_cell::{Pass, Race};
 use race_model::Shelf;
@@ -53,7 +53,7 @@ fn form<S: Shelf, G: Gate>(
 {
     stack.laws();
     atoms_are_first();
-    first_clauses_say_standing();
+    first_clauses_agree();
     let worker = pass.worker;
     let Ok(is_integer_free) = takes(alloc, stack) else {
         let report = out_of_memory(alloc, stack, settings, worker);

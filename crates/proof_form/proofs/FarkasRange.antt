@@ -1,5 +1,5 @@
 -- Adding each leaf's multiples, and the constants, stays in the range where the loops find so.
-use Rattle.std.proofs.Common.{◌≡◌, ℕ, ◌+◌, Bool, true, false, ◌&&◌, List, [], ◌∷◌, ◌++◌, All, map, nat_eq, sym, ap, ap₂, subst, ◌∙◌, refl, Option, Some, None, eq-eqb, cond}
+use Rattle.std.proofs.Common.{◌≡◌, ℕ, Bool, true, false, ◌&&◌, List, [], ◌∷◌, ◌++◌, All, map, nat_eq, sym, ap, ap₂, subst, ◌∙◌, refl, Option, Some, None, eq-eqb, cond}
 use Rattle.std.specs.Prelude.{ℤ, if◌then◌else◌}
 use Rattle.std.specs.List.{filter}
 use Rattle.std.proofs.lemmas.List.Elements.{All-nil, All-cons, All-head, All-tail}

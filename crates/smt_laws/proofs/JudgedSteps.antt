@@ -1,5 +1,5 @@
 -- What holds of the steps of which judging terms is made holds of judging them.
-use Rattle.std.proofs.Common.{◌≡◌, ℕ, ◌+◌, List, [], ◌∷◌, ◌++◌, refl, Bool, true, false, Option, Some, None}
+use Rattle.std.proofs.Common.{◌≡◌, ℕ, List, [], ◌∷◌, ◌++◌, refl, Bool, true, false, Option, Some, None}
 use Rattle.std.specs.Prelude.{pos, codes, bytes_eq}
 use Rattle.smt_meaning.specs.declared.values.Sort.{Sort}
 use Rattle.smt_meaning.specs.declared.values.Sort.TheVariants.{Bool as Truths}
@@ -14,7 +14,7 @@ use Rattle.smt_meaning.specs.declared.refusals.Refusal.{Refusal}
 use Rattle.smt_meaning.specs.Term.{Tree, Trees, node, none, more}
 use Rattle.smt_meaning.specs.Sexp.{Sexp, Sexps, word, group, end, ◌▸◌, sexp}
 use Rattle.smt_meaning.specs.Sorts.{Scope, Judging, ◌>>=◌, ◌>>◌, return, refuse, require, required, the_scope, note, found, declare, Typed, Variable, Rules, Known, variable, operator, function, unknown, known, can_be_applied, judge_application, judge_bare, judge_symbol, judge_operator, judge_token, head_number, judge_head, judge_divisible, check_bindings, none_twice, bound_names, name_by, judge_attributes, either, judge, judge_all, judge_bindings}
-use Rattle.smt_meaning.specs.StackCommand.{declares, in_question, judge_terms}
+use Rattle.smt_meaning.specs.StackCommand.{in_question, judge_terms}
 
 -- it holds where judgements give, refuse, note, find and declare, and of one judgement after another
 pub record HoldsOfSteps (Holds : (A : Type 0) → Judging A → Type 0) : Type 1 where

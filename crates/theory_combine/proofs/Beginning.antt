@@ -98,7 +98,7 @@ module _ (flat_law : FlatSaysTheSame) (first_law : AtomsAreFirst) (s : Stack) (m
 -- ---- leaves that get variables
 
 pub leaves_none : (s : Stack) (b : State) → AddsLeaves s b b
-leaves_none s b = record { knows = λ table k. k; columns = λ table h. h; basis = λ h. h; log = refl }
+leaves_none s b = record { knows = λ table k. k; columns = λ table h. h; basis = λ h. h; log = refl; kept = λ p h. h }
 
 pub leaves_then : (s : Stack) (b c d : State) → AddsLeaves s b c → AddsLeaves s c d → AddsLeaves s b d
 leaves_then s b c d h k = record {
@@ -106,4 +106,5 @@ leaves_then s b c d h k = record {
   columns = λ table has. k.columns table (h.columns table has);
   basis = λ has. k.basis (h.basis has);
   log = k.log ∙ h.log;
+  kept = λ p has. k.kept p (h.kept p has);
 }

@@ -35,6 +35,7 @@ use Rattle.theory_combine.specs.Shown.{AreShown, IsLeft, IsOfCheck, IsOverLeaves
 use Rattle.theory_combine.proofs.Branching.{each_longer, range_longer}
 use Rattle.theory_combine.proofs.Chained.{said_over}
 use Rattle.theory_combine.proofs.Growing.{lines_grown, none_told, pivots_on}
+use Rattle.theory_combine.proofs.Variables.{leaves_same}
 
 pub goes_still : (t : TheoryState) (b : Spending) → length b.units ≤ b.bound → Goes t t b b
 goes_still t b within = record {
@@ -130,7 +131,7 @@ went_after p old middle new b c e h =
 
 pub held_under_way : (p : Parts) (w : Progress) (h : Held) → IsUnderWay p w → IsHeld p.stack.now w.atoms.atoms h → column_sums h.bounds ≡ column_sums w.held.bounds → IsUnderWay p (record w { held = h })
 held_under_way p w h u held sums =
-    (u.0, record { setting = u.1.setting; marked = u.1.marked; held = held }, u.2, subst (λ xs. AreShown p.stack.now xs w.branches w.seen w.atoms.atoms) (sym sums) u.3)
+    (u.0, record { setting = u.1.setting; marked = u.1.marked; held = held; variables = leaves_same p.stack.now p.marks.items w.held.bounds h.bounds sums u.1.variables }, u.2, subst (λ xs. AreShown p.stack.now xs w.branches w.seen w.atoms.atoms) (sym sums) u.3)
 
 goes_held : (p : Parts) (w : Progress) (h : Held) (b : Spending) → h.closure.log.items ≡ w.held.closure.log.items → length b.units ≤ b.bound → Goes (state p w) (state p (record w { held = h })) b b
 goes_held p w h b log within =

@@ -17,7 +17,7 @@ use Rattle.theory_combine.specs.Shown.{IsMarkedLeaf}
 use Rattle.theory_combine.proofs.Marking.{marked_within}
 
 module _ (s : Stack) (marks : List Bool) (sorted : AreSortedParts (signature_of s.frames) s.trees marks) (parts : AreStackParts s marks) (different : AreDifferent s.trees) where
-  leaf_marked : (u : Tree) → IsPartOfStack s.frames u → tree_sort (signature_of s.frames) u ≡ Some Ints → is_leaf u ≡ true → IsMarkedLeaf s marks (place_of u s.trees)
+  pub leaf_marked : (u : Tree) → IsPartOfStack s.frames u → tree_sort (signature_of s.frames) u ≡ Some Ints → is_leaf u ≡ true → IsMarkedLeaf s marks (place_of u s.trees)
   leaf_marked u part int leaf =
       let at = parts.each u part in
       let within : at.0 < length s.trees = subst (λ n. at.0 < n) sorted.size (marked_within marks at.0 at.1) in

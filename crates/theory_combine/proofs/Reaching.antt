@@ -75,7 +75,7 @@ module _ (s : Stack) (table : List Atom) (h : Held) (held : IsHeld s table h) (b
   reached law values empty f first = record {
     values = leaf_values h.bounds.bounds;
     positive = (values h.bounds bounds).0;
-    meets = λ standing is. let one = last.standing standing is in (one.0, one.1, met law empty one.0 one.2);
+    meets = λ standing is. let one = last.agreed.standing standing is in (one.0, one.1, met law empty one.0 one.2);
     value = subst (λ (x : Ratio). SameNumber (leaf_values h.bounds.bounds f.term) x) ((values h.bounds bounds).1 f first) refl;
   }
 

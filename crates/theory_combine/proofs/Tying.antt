@@ -41,7 +41,7 @@ kept_at : (old : List Atom) (a b : Atom) (n : ℕ) → IsAt old n a → atom_at 
 kept_at old a b n h = get_or_append_left old (b ∷ []) (Truth 0) n h.0 ∙ h.1 (Truth 0)
 
 module _ (flat_law : FlatSaysTheSame) (sort_law : ValueHasItsSort) (s : Stack) (marks : List Bool) where
-  numbers : (p : ℕ) → IsFit s marks p → (I : Interpretation) → Interprets (signature_of s.frames) I → IsNumber (value I (tree_at s.trees p))
+  pub numbers : (p : ℕ) → IsFit s marks p → (I : Interpretation) → Interprets (signature_of s.frames) I → IsNumber (value I (tree_at s.trees p))
   numbers p fit I interprets = number_value (value I (tree_at s.trees p)) (sort_law (signature_of s.frames) I (tree_at s.trees p) Ints interprets fit.is_int)
 
   pub tied_lemmas : (old new : Atoms) (h : Held) (i j same low high : ℕ) (cs : List Lemma) → IsWhole s marks new h → new.atoms ≡ old.atoms ++ Same i j ∷ [] → same ≡ length old.atoms → IsFit s marks i → IsFit s marks j

@@ -1,10 +1,9 @@
 -- Arguments of applications whose values are past the range.
-use Rattle.std.specs.Prelude.{◌≡◌, ℕ, ◌<◌, Bool, true, false, List, length, All, ℤ, Some}
+use Rattle.std.specs.Prelude.{◌≡◌, ℕ, ◌<◌, Bool, true, false, List, length, All, Some}
 use Rattle.fraction128.specs.Whole.{is_in_range}
 use Rattle.smt_meaning.specs.declared.values.Sort.TheVariants.{Int as Ints}
 use Rattle.smt_meaning.specs.declared.terms.Head.{Head}
 use Rattle.smt_meaning.specs.declared.terms.Head.TheVariants.{Symbol}
-use Rattle.smt_meaning.specs.declared.clauses.Summand.{Summand}
 use Rattle.smt_meaning.specs.Term.{Tree, tree_at}
 use Rattle.smt_meaning.specs.TreeShape.{place_of}
 use Rattle.smt_meaning.specs.Signature.{tree_sort}
@@ -26,14 +25,6 @@ pub record HasWhole (b : State) (term : ℕ) : Type 0 where
 -- so have the leaves of a term
 abbrev pub HaveWhole : List Tree → State → Tree → Type 0
 HaveWhole ts b t = All (λ (u : Tree). HasWhole b (place_of u ts)) (leaves t)
-
--- so have those of each term that is listed
-abbrev pub AreListed : List Tree → State → List Bool → Type 0
-AreListed ts b listed = (p : ℕ) → is_marked listed p ≡ true → HaveWhole ts b (tree_at ts p)
-
--- a coefficient beside the number of its term
-abbrev pub pair_by : State → Summand → ℤ × ℤ
-pair_by b p = (p.coefficient, numbers_of b p.term)
 
 -- the value of the form at these numbers is past the range
 abbrev pub IsPastAt : State → Form → Type 0

@@ -1,6 +1,6 @@
 -- The variables of bounds, as those of leaves and of a table's atoms.
 use Rattle.std.specs.List.{range_with_len}
-use Rattle.std.specs.Prelude.{ℕ, Bool, List, map, length, ◌++◌, pos, All, Option, Some, None}
+use Rattle.std.specs.Prelude.{ℕ, ◌<◌, Bool, List, map, length, ◌++◌, pos, All, Option, Some, None}
 use Rattle.fraction128.specs.declared.Grid.{Grid}
 use Rattle.fraction128.specs.Grid.{is_basic}
 use Rattle.fraction128.specs.Chain.{unbounded}
@@ -13,6 +13,8 @@ use Rattle.search_port.specs.State.{Variables}
 use Rattle.bound_log.specs.Told.{State, column_sums}
 use Rattle.bound_log.specs.Columns.{HasColumnsOf}
 use Rattle.bound_log.specs.Pending.{plain_grid}
+use Rattle.sum_bounds.specs.Written.{HasLeaf}
+use Rattle.theory_combine.specs.Shown.{IsMarkedLeaf}
 
 -- a bound on the leaf alone
 abbrev pub bound_on : ℕ → Atom
@@ -27,6 +29,14 @@ pub record HasKnownColumns (s : Stack) (table : List Atom) (b : State) : Type 0 
   pub own : List ℕ
   pub leaves : All (IsLeaf s.trees (flat s.frames)) own
   pub columns : HasColumnsOf (with_leaves own table) b
+
+-- each marked leaf of the first places has a variable
+abbrev pub HaveVariablesTo : Stack → List Bool → ℕ → State → Type 0
+HaveVariablesTo s marks count b = (p : ℕ) → p < count → IsMarkedLeaf s marks p → HasLeaf b.bounds.columns p
+
+-- each marked leaf has a variable
+abbrev pub HaveVariables : Stack → List Bool → State → Type 0
+HaveVariables s marks b = (p : ℕ) → IsMarkedLeaf s marks p → HasLeaf b.bounds.columns p
 
 -- whether each variable is basic
 abbrev pub basic_flags : State → List Bool

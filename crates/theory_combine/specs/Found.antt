@@ -14,3 +14,10 @@ IsFound s table log (Fine tables) = IsModelOf (state_of s table log) tables
 IsFound s table log (Apart c) = (c.first < length s.trees) × (c.second < length s.trees)
 IsFound s table log (Equal pairs) = Unit {0}
 IsFound s table log Unfit = Unit {0}
+
+-- two applications that clash are among the terms
+abbrev pub IsClashFound : Stack → Found → Type 0
+IsClashFound s (Fine tables) = Unit {0}
+IsClashFound s (Apart c) = (c.first < length s.trees) × (c.second < length s.trees)
+IsClashFound s (Equal pairs) = Unit {0}
+IsClashFound s Unfit = Unit {0}

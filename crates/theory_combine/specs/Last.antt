@@ -5,12 +5,12 @@ use Rattle.smt_meaning.specs.declared.clauses.Atom.{Atom}
 use Rattle.smt_meaning.specs.declared.clauses.Atom.TheVariants.{AtMost}
 use Rattle.atom_form.specs.AtomTableNumbers.{IsAt}
 use Rattle.search_port.specs.State.{TheoryState, IsFull, atom_at}
-use Rattle.check_atoms.specs.Standing.{StandingHolds}
+use Rattle.first_clauses.specs.Holding.{IsAgreed}
 
--- each numbered atom is told, and of each list that stands an atom is told to be true
+-- each numbered atom is told, of each list that stands an atom is told to be true, and each part is decided
 pub record IsLast (t : TheoryState) : Type 0 where
   pub full : IsFull t.reading t.log
-  pub standing : StandingHolds t.reading t.log
+  pub agreed : IsAgreed t.reading t.log
 
 -- a bound of the empty sum that the literal tells to be true is true
 abbrev pub HoldsWhereEmpty : List Atom → Signed → Type 0

@@ -9,6 +9,9 @@ pub mod Found
 pub mod Held
 pub mod Kept
 pub mod Last
+pub mod Settled
+pub mod Settling
+pub mod Clashing
 pub mod Numbering
 pub mod Pairs
 pub mod Pivots

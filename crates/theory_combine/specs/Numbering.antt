@@ -13,6 +13,7 @@ use Rattle.closure_log.specs.Seen.{IsOfTerms, IsSetting}
 use Rattle.theory_combine.specs.declared.held.Held.{Held}
 use Rattle.theory_combine.specs.declared.numbering.NewAtom.{NewAtom}
 use Rattle.theory_combine.specs.declared.numbering.NewAtom.TheVariants.{Equality, Bound}
+use Rattle.theory_combine.specs.Columns.{HaveVariables}
 use Rattle.theory_combine.specs.Held.{IsHeld}
 
 -- the atoms that are told of: all, or those before one that couldn't be kept
@@ -20,11 +21,12 @@ abbrev pub table_of : Option ℕ → List Atom → List Atom
 table_of None atoms = atoms
 table_of (Some n) atoms = take n atoms
 
--- the atoms are of the stack, over marked terms, and what is held is of them
+-- the atoms are of the stack, over marked terms, what is held is of them, and each marked leaf has a variable
 pub record IsWhole (s : Stack) (marks : List Bool) (atoms : Atoms) (h : Held) : Type 0 where
   pub setting : IsSetting s atoms.atoms
   pub marked : All (HasMarkedPlaces marks) atoms.atoms
   pub held : IsHeld s atoms.atoms h
+  pub variables : HaveVariables s marks h.bounds
 
 -- where an atom couldn't be kept, nothing more is held
 abbrev pub IsNumbered : Stack → List Bool → Option ℕ → Atoms → Held → Type 0

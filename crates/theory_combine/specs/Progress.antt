@@ -11,6 +11,7 @@ use Rattle.model_build.specs.Parts.{AreSortedParts}
 use Rattle.closure_log.specs.Seen.{state_of}
 use Rattle.bound_log.specs.Told.{column_sums}
 use Rattle.closure_log.specs.Parts.{AreWideXors}
+use Rattle.closure_log.specs.Distinct.{AreAssertedDistincts}
 use Rattle.exact_model.specs.Places.{AreAtMarks}
 use Rattle.theory_combine.specs.declared.parts.Parts.{Parts}
 use Rattle.theory_combine.specs.declared.parts.Progress.{Progress}
@@ -19,11 +20,12 @@ use Rattle.theory_combine.specs.Numbering.{table_of, IsNumbered, IsWhole}
 use Rattle.theory_combine.specs.Pairs.{AreReadable}
 use Rattle.theory_combine.specs.Shown.{AreShown}
 
--- the parts of a stack's assertions, which bounds can read, which are wide `xor`s, and the assertions among them
+-- the parts of a stack's assertions, which bounds can read, which are wide `xor`s, the assertions among them, and those that are wide `distinct`s
 abbrev pub AreParts : Parts → Type 0
 AreParts p =
     AreSortedParts (signature_of p.stack.now.frames) p.stack.now.trees p.marks.items × AreReadable p.stack.now.trees p.marks.items
     × AreStackParts p.stack.now p.marks.items × AreWideXors p.stack.now.trees p.marks.items p.wide_xors.items × AreAtMarks p.stack.now.trees p.marks.items (assertions_of p.stack.now.frames)
+    × AreAssertedDistincts p.stack.now p.wide_distincts.items
 
 -- the atoms that are told of, and what was told
 abbrev pub state : Parts → Progress → TheoryState

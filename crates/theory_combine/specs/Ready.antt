@@ -17,7 +17,8 @@ use Rattle.theory_combine.specs.declared.parts.Pair.{Pair}
 use Rattle.theory_combine.specs.declared.parts.Parts.{Parts}
 use Rattle.theory_combine.specs.declared.parts.Progress.{Progress}
 use Rattle.theory_combine.specs.declared.step.Step.{Step}
-use Rattle.theory_combine.specs.Held.{IsMet}
+use Rattle.sum_bounds.specs.Bounds.{AreWhole}
+use Rattle.theory_combine.specs.Held.{AllFit, IsMet}
 use Rattle.theory_combine.specs.Last.{IsLast}
 use Rattle.theory_combine.specs.Pairs.{IsWanted}
 use Rattle.theory_combine.specs.Pivots.{SpendsAll}
@@ -35,6 +36,12 @@ pub record IsReady (p : Parts) (w : Progress) : Type 0 where
 pub record IsAtLast (p : Parts) (w : Progress) : Type 0 where
   pub ready : IsReady p w
   pub last : IsLast (state p w)
+
+-- a last check in which the variables have whole values within all bounds, and these meet all that is told
+pub record IsMetAtLast (p : Parts) (w : Progress) : Type 0 where
+  pub at_last : IsAtLast p w
+  pub fits : AllFit w.held.bounds
+  pub whole : AreWhole w.held.bounds.bounds
 
 -- the two applications are among the terms
 abbrev pub IsClashIn : Stack → Clash → Type 0

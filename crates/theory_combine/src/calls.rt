@@ -2,7 +2,7 @@
 ghost use Rattle.std.specs.Prelude.{◌≡◌, ◌<◌, ◌≤◌, length, take};
 ghost use Rattle.search_port.specs.State.{IsFull, IsOpenIn};
 ghost use Rattle.search_port.specs.Calls.{AssertedBy, CheckedBy, InferredBy};
-ghost use Rattle.check_atoms.specs.Standing.{StandingHolds};
+ghost use Rattle.first_clauses.specs.Holding.{IsAgreed};
 ghost use Rattle.theory_combine.specs.Progress.{full_state, state, AreParts, IsProgress};
 ghost use Rattle.theory_combine.specs.Ready.{WentOn};
 
@@ -64,7 +64,7 @@ pub fn check(parts: &Parts<'_>, progress: &mut Progress, budget: &mut Budget) ->
     requires parts { AreParts parts.now }
     requires progress { IsProgress parts.now progress.old }
     requires full { IsFull (state parts.now progress.old).reading (state parts.now progress.old).log }
-    requires standing { StandingHolds (state parts.now progress.old).reading (state parts.now progress.old).log }
+    requires agreed { IsAgreed (state parts.now progress.old).reading (state parts.now progress.old).log }
     ensures went { WentOn parts.now progress.old progress.new budget.old budget.new }
     ensures found { CheckedBy (full_state parts.now progress.new) budget.old budget.new result }
 {

@@ -2,17 +2,17 @@
 ghost use Rattle.std.specs.Prelude.{IfOk, IfSome, IfNone};
 ghost use Rattle.search_port.specs.Calls.{IsConflict, InferredBy};
 ghost use Rattle.search_port.specs.Spending.{Spending};
-ghost use Rattle.sum_bounds.specs.Bounds.{IsFirstIn};
+ghost use Rattle.sum_bounds.specs.Bounds.{AreWhole, IsFirstIn};
 ghost use Rattle.closure_log.specs.Seen.{state_of};
 ghost use Rattle.theory_combine.specs.declared.held.Met.TheVariants.{Fits};
-ghost use Rattle.theory_combine.specs.Found.{IsFound};
+ghost use Rattle.theory_combine.specs.Found.{IsFound, IsClashFound};
 ghost use Rattle.theory_combine.specs.Held.{AllFit};
-ghost use Rattle.theory_combine.specs.Progress.{state, Went};
-ghost use Rattle.theory_combine.specs.Steps.{IsStep, StepChecks, StepInfers};
+ghost use Rattle.theory_combine.specs.Progress.{state, AreParts, Went};
+ghost use Rattle.theory_combine.specs.Steps.{IsStep, StepInfers};
 ghost use Rattle.theory_combine.specs.Kept.{IsHeldOf, KeepsHeld};
-ghost use Rattle.theory_combine.specs.Ready.{Checks, HasMet, Infers, IsAtLast, IsClashIn, IsReady, Steps};
+ghost use Rattle.theory_combine.specs.Pairs.{IsWanted};
+ghost use Rattle.theory_combine.specs.Ready.{Checks, HasMet, Infers, IsAtLast, IsMetAtLast, IsReady, Steps};
 
-use crate::argument::argument_seen;
 use crate::branch::branch;
 use crate::cycles::{follow_differences, meet_differences};
 use crate::distincts::equal_arguments;
@@ -22,12 +22,11 @@ use crate::model::{Found, find_model};
 use crate::pairs::{go_on_with_pair, next_pair};
 use crate::parts::{Pair, Parts, Progress};
 use crate::pivots::meet_within;
-use crate::step::{Step, stays, stop_past, stop_seeing};
-use crate::unfit::stop_unfit;
+use crate::settle::settle;
+use crate::step::{Step, checked, stays, stop_past};
 use crate::wanted::want;
 use crate::xors::{broken_xor, follow_xors};
 use atom_form::AtomNumbers;
-use model_build::Clash;
 use search_port::{Budget, Cause, Checked, Inferred, Lemma};
 use std::alloc::AllocError;
 use sum_bounds::FractionalLeaf;
@@ -40,17 +39,6 @@ fn inferred(step: Step) -> Inferred
         Step::Lemmas(lemmas) => Inferred::Lemmas(lemmas),
         Step::Conflict(clause) => Inferred::Conflict(clause),
         Step::Ended(cause) => Inferred::Ended(cause),
-    }
-}
-
-/// What a step comes to in a last check.
-fn checked(step: Step) -> Checked
-    ensures { StepChecks step result }
-{
-    match step {
-        Step::Lemmas(lemmas) => Checked::Lemmas(lemmas),
-        Step::Conflict(clause) => Checked::Conflict(clause),
-        Step::Ended(cause) => Checked::Ended(cause),
     }
 }
 
@@ -75,51 +63,24 @@ fn make_whole(
     }
 }
 
-/// Doesn't go on where two applications clash, and shows an argument whose value left the range, if one did.
-fn stop_at_clash(parts: &Parts<'_>, progress: &mut Progress, budget: &Budget, clash: Clash) -> Step
-    requires ready { IsReady parts.now progress.old }
-    requires clash { IsClashIn parts.now.stack.now clash }
-    ensures { Steps parts.now progress.old progress.new budget.now budget.now result }
-{
-    let seen = argument_seen(parts, progress, clash);
-    if seen.is_none() {
-        return stop_unfit(parts, progress, budget);
-    }
-    stop_seeing(parts, progress, budget, seen)
-}
-
-/// Goes on after two applications were found to clash, with the newest pair whose equality is to get a number.
-fn separate(parts: &Parts<'_>, progress: &mut Progress, budget: &mut Budget, clash: Clash) -> Step
-    requires ready { IsReady parts.now progress.old }
-    requires clash { IsClashIn parts.now.stack.now clash }
-    ensures { Steps parts.now progress.old progress.new budget.old budget.new result }
-{
-    let wanted = want(&mut progress.pairs, parts.stack, clash);
-    stays(parts, progress, budget);
-    if wanted.is_err() {
-        return Step::Ended(Cause::Memory);
-    }
-    match next_pair(parts, &mut progress.pairs, &progress.atoms) {
-        Some(pair) => go_on_with_pair(parts, progress, budget, pair),
-        None => stop_at_clash(parts, progress, budget, clash),
-    }
-}
-
-/// Goes on after Ints that a wide `distinct` tells apart were found to have one value. No pairs are left from before, since each gets its number between decisions.
-fn tell_apart(
+/// The newest pair of Ints whose equality is to get a number after what was found, if there is one: of two applications that clash, or of Ints that a wide `distinct` tells
+/// apart and that have one value. No pairs are left from before, since each gets its number between decisions. An `Err` is for want of memory.
+fn wanted_pair(
     parts: &Parts<'_>,
-    progress: &mut Progress,
-    budget: &mut Budget,
-    pairs: Vec<Pair>,
-) -> Step
-    requires { IsReady parts.now progress.old }
-    ensures { Steps parts.now progress.old progress.new budget.old budget.new result }
+    pairs: &mut Vec<Pair>,
+    atoms: &AtomNumbers,
+    found: Found,
+) -> Result<Option<Pair>, AllocError>
+    requires parts { AreParts parts.now }
+    requires clash { IsClashFound parts.now.stack.now found }
+    ensures { IfOk result (λ o. IfSome o (IsWanted parts.now.stack.now parts.now.marks.items atoms.now.atoms)) }
 {
-    progress.pairs = pairs;
-    match next_pair(parts, &mut progress.pairs, &progress.atoms) {
-        Some(pair) => go_on_with_pair(parts, progress, budget, pair),
-        None => stop_unfit(parts, progress, budget),
+    match found {
+        Found::Fine(_) | Found::Unfit => return Ok(None),
+        Found::Apart(clash) => want(pairs, parts.stack, clash)?,
+        Found::Equal(equal) => *pairs = equal,
     }
+    Ok(next_pair(parts, pairs, atoms))
 }
 
 /// Looks for a model with the values that there are.
@@ -137,23 +98,23 @@ fn model_of(parts: &Parts<'_>, progress: &Progress) -> Result<Found, AllocError>
     )
 }
 
-/// A last check, from what was found with the values that there are.
-fn judge_found(
+/// Goes on from values that meet all bounds and are whole, and make no model: with a pair that is wanted, or by the slow way.
+fn go_on_from(
     parts: &Parts<'_>,
     progress: &mut Progress,
     budget: &mut Budget,
     found: Found,
 ) -> Checked
-    requires ready { IsReady parts.now progress.old }
-    requires found { IsFound parts.now.stack.now progress.old.atoms.atoms progress.old.held.closure.log.items found }
+    requires met { IsMetAtLast parts.now progress.old }
+    requires clash { IsClashFound parts.now.stack.now found }
     ensures { Checks parts.now progress.old progress.new budget.old budget.new result }
 {
+    let wanted = wanted_pair(parts, &mut progress.pairs, &progress.atoms, found);
     stays(parts, progress, budget);
-    match found {
-        Found::Fine(tables) => Checked::Fine(tables),
-        Found::Apart(clash) => checked(separate(parts, progress, budget, clash)),
-        Found::Equal(pairs) => checked(tell_apart(parts, progress, budget, pairs)),
-        Found::Unfit => checked(stop_unfit(parts, progress, budget)),
+    match wanted {
+        Err(_) => Checked::Ended(Cause::Memory),
+        Ok(Some(pair)) => checked(go_on_with_pair(parts, progress, budget, pair)),
+        Ok(None) => settle(parts, progress, budget),
     }
 }
 
@@ -168,8 +129,9 @@ fn judge_values(parts: &Parts<'_>, progress: &mut Progress, budget: &mut Budget)
         return checked(make_whole(parts, progress, budget, leaf));
     }
     match model_of(parts, progress) {
-        Ok(found) => judge_found(parts, progress, budget, found),
         Err(_) => Checked::Ended(Cause::Memory),
+        Ok(Found::Fine(tables)) => Checked::Fine(tables),
+        Ok(found) => go_on_from(parts, progress, budget, found),
     }
 }
 
@@ -201,17 +163,39 @@ fn judge_sums(parts: &Parts<'_>, progress: &mut Progress, budget: &mut Budget) -
     }
 }
 
+/// A last check where the numbers of a graph meet all bounds, which are differences, and make no model: with a pair that is wanted, or by the rows of sums.
+fn judge_further(
+    parts: &Parts<'_>,
+    progress: &mut Progress,
+    budget: &mut Budget,
+    found: Found,
+) -> Checked
+    requires at_last { IsAtLast parts.now progress.old }
+    requires clash { IsClashFound parts.now.stack.now found }
+    ensures { Checks parts.now progress.old progress.new budget.old budget.new result }
+{
+    let wanted = wanted_pair(parts, &mut progress.pairs, &progress.atoms, found);
+    stays(parts, progress, budget);
+    match wanted {
+        Err(_) => Checked::Ended(Cause::Memory),
+        Ok(Some(pair)) => checked(go_on_with_pair(parts, progress, budget, pair)),
+        Ok(None) => {
+            progress.held.looked.differences.give_up();
+            judge_sums(parts, progress, budget)
+        }
+    }
+}
+
 /// A last check where the numbers of a graph meet all bounds, which are differences: they may be those of a model, or else the rows of sums are looked at.
 fn judge_numbers(parts: &Parts<'_>, progress: &mut Progress, budget: &mut Budget) -> Checked
     requires { IsAtLast parts.now progress.old }
     ensures { Checks parts.now progress.old progress.new budget.old budget.new result }
 {
+    stays(parts, progress, budget);
     match model_of(parts, progress) {
-        Err(_) | Ok(Found::Unfit) => {
-            progress.held.looked.differences.give_up();
-            judge_sums(parts, progress, budget)
-        }
-        Ok(found) => judge_found(parts, progress, budget, found),
+        Err(_) => Checked::Ended(Cause::Memory),
+        Ok(Found::Fine(tables)) => Checked::Fine(tables),
+        Ok(found) => judge_further(parts, progress, budget, found),
     }
 }
 

@@ -1,5 +1,5 @@
 //! Int leaves of the assertions.
-ghost use Rattle.std.specs.Prelude.{◌≡◌, true, slice_index_or};
+ghost use Rattle.std.specs.Prelude.{◌≡◌, true, false, slice_index_or};
 ghost use Rattle.smt_meaning.specs.declared.values.Sort.TheVariants.{Bool as Truths, Int as Ints};
 ghost use Rattle.smt_meaning.specs.CheckAtoms.{is_leaf_head};
 ghost use Rattle.smt_meaning.specs.Stack.{signature_of};
@@ -18,7 +18,8 @@ pub(crate) fn is_marked_place(marks: &[bool], place: u32) -> bool
 
 /// Whether a listed sort is Int.
 pub(crate) fn is_int(sorts: &[Sort], place: TermId) -> bool
-    ensures { result ≡ true → slice_index_or sorts.now place Truths ≡ Ints }
+    ensures yes { result ≡ true → slice_index_or sorts.now place Truths ≡ Ints }
+    ensures no { result ≡ false → slice_index_or sorts.now place Truths ≡ Ints → ⊥ }
 {
     if place as usize >= sorts.len() {
         return false;
@@ -44,7 +45,8 @@ pub(crate) fn is_leaf_head(head: Head) -> bool
 /// Whether a term is a leaf of the marked Ints of a stack.
 pub(crate) fn is_marked_leaf(stack: &Stack, marks: &[bool], place: TermId) -> bool
     requires { AreSortedParts (signature_of stack.now.frames) stack.now.trees marks.now }
-    ensures { result ≡ true → IsMarkedLeaf stack.now marks.now place }
+    ensures yes { result ≡ true → IsMarkedLeaf stack.now marks.now place }
+    ensures no { result ≡ false → IsMarkedLeaf stack.now marks.now place → ⊥ }
 {
     let sorts = stack.sorts();
     if !is_marked_place(marks, place) {

@@ -24,9 +24,14 @@
 //! back change nothing of the grid but its bounds.
 //!
 //! Where two applications clash, the values are moved apart within all bounds, and tried once more.
-//! A model is given only where, evaluated, it makes every literal told true. Of each branch, at a
-//! value that meets all that stands, the row is kept, so that each atom is one of the check with the
-//! branches so far.
+//! A model is given only where, evaluated, it makes every literal told true.
+//!
+//! Where values that are whole and meet all bounds give none, exact values decide, in which each
+//! operator holds (`settle`): they are a model, or a clause is false, a pair of Ints gets its
+//! number, or a number leaves the range. Memory is wanting only where an allocation fails.
+//!
+//! Of each branch, at a value that meets all that stands, the row is kept, so that each atom is one
+//! of the check with the branches so far.
 //!
 //! `show`, `written`: where a number left the range, that is shown: in folding the difference of
 //! two Int parts, in a step of the values or a bound that was to be taken in, told or numbered, in
@@ -34,9 +39,9 @@
 #![tactic(auto)]
 
 mod apart;
-mod argument;
 mod branch;
 mod calls;
+mod clashes;
 mod constant;
 mod cycles;
 mod differences;
@@ -46,11 +51,14 @@ mod held;
 mod implied;
 mod judge;
 mod leaves;
+mod listing;
 mod model;
 mod numbering;
 mod pairs;
 mod parts;
 mod pivots;
+mod settle;
+mod settled;
 mod showing;
 mod start;
 mod step;

@@ -39,7 +39,7 @@ pub(crate) enum Sought {
 }
 
 /// The pair with its terms exchanged.
-fn other_way(pair: Pair) -> Pair
+pub(crate) fn other_way(pair: Pair) -> Pair
     ensures left { result.left ≡ pair.right }
     ensures right { result.right ≡ pair.left }
 {
@@ -65,9 +65,10 @@ fn is_numbered(atoms: &AtomNumbers, pair: Pair) -> bool
 }
 
 /// Whether a term is a marked Int whose bounds have its value.
-fn is_fit(parts: &Parts<'_>, place: TermId) -> bool
+pub(crate) fn is_fit(parts: &Parts<'_>, place: TermId) -> bool
     requires { AreParts parts.now }
-    ensures { result ≡ true → IsFit parts.now.stack.now parts.now.marks.items place }
+    ensures yes { result ≡ true → IsFit parts.now.stack.now parts.now.marks.items place }
+    ensures no { result ≡ false → IsFit parts.now.stack.now parts.now.marks.items place → ⊥ }
 {
     let sorts = parts.stack.sorts();
     if !is_marked_place(&parts.marks, place) {
@@ -90,7 +91,7 @@ fn look_up(atoms: &AtomNumbers, sum: Vec<Summand>, threshold: i128) -> Sought
 }
 
 /// The bound that one term is at most another.
-fn seek(
+pub(crate) fn seek(
     parts: &Parts<'_>,
     forms: &mut LinearForms,
     atoms: &AtomNumbers,
@@ -204,7 +205,7 @@ fn seen_of(
 }
 
 /// Doesn't go on where folding the bound of two Int parts is refused.
-fn stop_at_pair(
+pub(crate) fn stop_at_pair(
     parts: &Parts<'_>,
     progress: &mut Progress,
     budget: &Budget,

@@ -5,15 +5,17 @@ ghost use Rattle.search_port.specs.State.{atom_at};
 ghost use Rattle.check_atoms.specs.Marks.{AreStackParts};
 ghost use Rattle.check_atoms.specs.Numbering.{IsNormal};
 ghost use Rattle.check_atoms.specs.OfStack.{AreCheckAtoms};
+ghost use Rattle.sum_bounds.specs.Written.{HasLeaf};
 ghost use Rattle.bound_log.specs.Told.{column_sums};
 ghost use Rattle.bound_log.specs.Atoms.{Knows, KnowsOneMore};
 ghost use Rattle.bound_log.specs.Columns.{AddsColumns, HasColumnsOf};
 ghost use Rattle.bound_log.specs.Growth.{GrowsVariables};
 ghost use Rattle.bound_log.specs.Pending.{plain_grid};
 ghost use Rattle.theory_combine.specs.Begin.{AddsLeaves, AreMarkedParts, IsBegun};
-ghost use Rattle.theory_combine.specs.Columns.{HasKnownColumns};
+ghost use Rattle.theory_combine.specs.Columns.{HasKnownColumns, HaveVariables};
 ghost use Rattle.theory_combine.specs.Errors.{IsErrorAt, IsErrorIn, IsErrorSeen};
 ghost use Rattle.theory_combine.specs.Held.{IsHeld};
+ghost use Rattle.theory_combine.specs.Shown.{IsMarkedLeaf};
 
 use crate::differences::Differences;
 use crate::errors::{BoundError, know_bound, know_other};
@@ -87,7 +89,8 @@ fn add_if_leaf(
     place: u32,
 ) -> Result<(), AllocError>
     requires { AreMarkedParts stack.now marks.now }
-    ensures { AddsLeaves stack.now bounds.old bounds.new }
+    ensures adds { AddsLeaves stack.now bounds.old bounds.new }
+    ensures variable { OnOk result (IsMarkedLeaf stack.now marks.now place → HasLeaf bounds.new.bounds.columns place) }
 {
     flat_says_the_same();
     if !is_marked_leaf(stack, marks, place) {
@@ -104,7 +107,8 @@ fn add_leaves(
     bounds: &mut BoundLog,
 ) -> Result<(), AllocError>
     requires { AreMarkedParts stack.now marks.now }
-    ensures { AddsLeaves stack.now bounds.old bounds.new }
+    ensures adds { AddsLeaves stack.now bounds.old bounds.new }
+    ensures variables { OnOk result (HaveVariables stack.now marks.now bounds.new) }
 {
     for place in 0..stack.terms().len() {
         add_if_leaf(alloc, stack, marks, bounds, place)?;

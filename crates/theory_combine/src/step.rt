@@ -8,12 +8,13 @@ ghost use Rattle.theory_combine.specs.Errors.{IsPastOver};
 ghost use Rattle.theory_combine.specs.Progress.{IsUnderWay, Went};
 ghost use Rattle.theory_combine.specs.Shown.{IsOfCheck, IsLeft, IsMarkedLeaf};
 ghost use Rattle.theory_combine.specs.Ready.{IsReady, Steps};
+ghost use Rattle.theory_combine.specs.Steps.{StepChecks};
 
 use crate::constant::said_of;
 use crate::numbering::{NewAtom, NewBound, number_new};
 use crate::parts::{Parts, Progress};
 use fraction128::Grid;
-use search_port::{Budget, Cause, Lemma};
+use search_port::{Budget, Cause, Checked, Lemma};
 use smt_laws::{flat_says_the_same, symbols_are_declared};
 use smt_meaning::{RangeSeen, Seq};
 
@@ -104,4 +105,15 @@ pub(crate) fn stop(parts: &Parts<'_>, progress: &Progress, budget: &Budget) -> S
 {
     stays(parts, progress, budget);
     Step::Ended(Cause::Memory)
+}
+
+/// What a step comes to in a last check.
+pub(crate) fn checked(step: Step) -> Checked
+    ensures { StepChecks step result }
+{
+    match step {
+        Step::Lemmas(lemmas) => Checked::Lemmas(lemmas),
+        Step::Conflict(clause) => Checked::Conflict(clause),
+        Step::Ended(cause) => Checked::Ended(cause),
+    }
 }

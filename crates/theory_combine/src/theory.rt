@@ -42,6 +42,7 @@ impl<'s> Combined<'s> {
     ghost use Rattle.check_atoms.specs.OfStack.{AreCheckAtoms};
     ghost use Rattle.linear_forms.specs.Table.{AreForms};
     ghost use Rattle.closure_log.specs.Seen.{state_of};
+    ghost use Rattle.closure_log.specs.Distinct.{AreAssertedDistincts};
     ghost use Rattle.closure_log.specs.Parts.{AreWideXors};
     ghost use Rattle.theory_combine.specs.Begin.{IsBegun};
     ghost use Rattle.theory_combine.specs.Columns.{variables_of};
@@ -58,6 +59,7 @@ impl<'s> Combined<'s> {
     ) -> Self
         requires forms { AreForms stack.now.trees parts.forms }
         requires wide_xors { AreWideXors stack.now.trees parts.marks.items wide_xors.items }
+        requires wide_distincts { AreAssertedDistincts stack.now wide_distincts.items }
         requires begun { IsBegun stack.now parts.marks.items parts.atoms begun }
         ensures { result ≡ record (state_of stack.now parts.atoms.atoms []) { variables = variables_of None begun.held.bounds } }
     {
@@ -104,14 +106,14 @@ impl<'s> Combined<'s> {
 }
 
 impl<'s> Theory for Combined<'s> {
-    ghost use Rattle.check_atoms.specs.Standing.{StandingHolds};
+    ghost use Rattle.first_clauses.specs.Holding.{IsAgreed};
     ghost use Rattle.theory_combine.specs.Combined.{TakesAll};
 
     ghost state = { λ s. s };
 
     ghost takes = { λ s. TakesAll };
 
-    ghost agrees = { λ r log. StandingHolds r log };
+    ghost agrees = { λ r log. IsAgreed r log };
 
     fn atoms(&self) -> u32 {
         match self.progress.lost {

@@ -1,6 +1,6 @@
 //! The program round a run, over a command line and ends in memory.
+use crate::program::program;
 use ports::{MemSink, MemSource};
-use smt_program::program;
 use smt_words::{WordsError, words_of};
 use std::alloc::Global;
 use std::env;

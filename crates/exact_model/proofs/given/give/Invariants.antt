@@ -5,5 +5,5 @@ use Rattle.exact_model.proofs.given.give.Given as goal
 abbrev pub invariant-loop-place : goal.invariant-loop-place
 invariant-loop-place l = record {
   count : length l.given.items ≡ l.place;
-  each : AllGiven l.listed.store.now.trees l.marks l.sorts l.listed.values.now l.place l.given.items;
+  each : AllGiven l.listed.store.now.trees l.marks l.listed.values.now l.place l.given.items;
 }

@@ -22,8 +22,8 @@ run-requires-clause-start g c =
       untold = c.in-Ok-new.ensures.log;
       pivots = c.in-Ok-new.ensures.pivots;
       agreed = λ q log grown full consistent made.
-          c.first_clauses_say_standing.ensures s numbers.marks.items c.sorts.result.now numbers.atoms.atoms c.in-Ok-check_clauses.store q log c.laws.ensures c.in-Ok-numbered.ensures.parts
+          c.first_clauses_agree.ensures s numbers.marks.items c.sorts.result.now numbers.atoms.atoms c.in-Ok-check_clauses.store q log c.laws.ensures c.in-Ok-numbered.ensures.parts
           c.in-Ok-numbered.ensures.atoms c.sorts.ensures c.in-Ok-check_clauses.ensures.first c.in-Ok-check_clauses.ensures.parts
-          (subst (λ (r : Reading). IsGrown r q) (c.in-Ok-new.ensures.reading ∙ ap (λ (p : CheckAtoms). reading_of s p.atoms.atoms) c.check_clauses.ensures.same) grown) consistent
+          (subst (λ (r : Reading). IsGrown r q) (c.in-Ok-new.ensures.reading ∙ ap (λ (p : CheckAtoms). reading_of s p.atoms.atoms) c.check_clauses.ensures.same) grown) full consistent
           (λ k among. made k (c.keep_axioms.ensures.stay k among));
     }

@@ -1,4 +1,4 @@
-use Rattle.std.proofs.Common.{◌<◌, ◌≤◌, ◌-◌, true, false, length, sym, ◌∙◌, arith}
+use Rattle.std.proofs.Common.{◌<◌, ◌≤◌, length, sym, ◌∙◌, arith}
 use Rattle.proof_form.proofs.Going.{none_added, adds_on, adds_not, adds_all}
 use Rattle.proof_form.proofs.whole.add_terms.Goals as goal
 

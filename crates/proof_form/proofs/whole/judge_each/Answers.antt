@@ -1,4 +1,4 @@
-use Rattle.std.proofs.Common.{◌<◌, ◌≤◌, ◌-◌, length, refl, sym, ◌∙◌, subst, All, arith}
+use Rattle.std.proofs.Common.{◌<◌, ◌≤◌, length, refl, sym, ◌∙◌, subst, All, arith}
 use Rattle.proof_form.specs.Asserted.{asserted_at}
 use Rattle.proof_terms.specs.Terms.{ProofTerms}
 use Rattle.proof_form.proofs.Going.{none_run, judged_good, judged_wrong, judged_outside, judged_all}

@@ -1,4 +1,4 @@
-use Rattle.std.proofs.Common.{true, false, sym, subst, inl}
+use Rattle.std.proofs.Common.{sym, subst, inl}
 use Rattle.std.specs.List.Sorted.{IsNonDecreasing}
 use Rattle.std.proofs.lemmas.List.Sorted.{IsNonDecreasingBy-from_sort, IsPermutation-sym}
 use Rattle.proof_terms.proofs.FormLists.{permuted_to, all_among}

@@ -1,4 +1,4 @@
-use Rattle.std.proofs.Common.{ℕ, Bool, true, false, List, take, get_or, sym, ap, ◌∙◌}
+use Rattle.std.proofs.Common.{ℕ, Bool, false, List, take, get_or, sym, ap, ◌∙◌}
 use Rattle.std.proofs.lemmas.List.{take_more}
 use Rattle.smt_meaning.specs.Term.{xor}
 use Rattle.proof_terms.specs.FormValues.{is_odd}

@@ -1,4 +1,4 @@
-use Rattle.std.proofs.Common.{true, false, sym, ◌∙◌, ap}
+use Rattle.std.proofs.Common.{sym, ◌∙◌, ap}
 use Rattle.proof_terms.specs.FormValues.{on_rest}
 use Rattle.proof_terms.proofs.FormChosen.{at_negative, at_positive, at_other, turned_same, turned_other}
 use Rattle.proof_terms.proofs.form_values.truth.Goals as goal

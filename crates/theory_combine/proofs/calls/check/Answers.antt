@@ -25,5 +25,5 @@ returns-in-None-clause-found c =
 pub judge-requires : goal.judge-requires
 judge-requires c = record {
   ready = to_ready c.args.parts.now c.args.progress.now c.requires.parts c.requires.progress c.in-None.is;
-  last = record { full = c.requires.full; standing = c.requires.standing };
+  last = record { full = c.requires.full; agreed = c.requires.agreed };
 }

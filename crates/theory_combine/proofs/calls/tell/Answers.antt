@@ -12,6 +12,7 @@ use Rattle.theory_combine.specs.Shown.{AreShown, IsLeft}
 use Rattle.theory_combine.proofs.Calling.{asserted_with, with_variables}
 use Rattle.theory_combine.proofs.Going.{shown_seen}
 use Rattle.theory_combine.proofs.Growing.{variables_same}
+use Rattle.theory_combine.proofs.Variables.{leaves_same}
 use Rattle.theory_combine.proofs.Past.{error_left, seen_left}
 use Rattle.theory_combine.proofs.calls.tell.Goals as goal
 
@@ -29,7 +30,7 @@ returns-in-Err-clause-progress c =
     let left : IfSome c.seen_of.result (IsLeft s sums w.branches) =
     subst (λ (o : Option RangeSeen). IfSome o (IsLeft s sums w.branches)) (sym c.seen_of.ensures)
     (seen_left s sums w.branches c.in-Err.error (error_left s sums w.branches w.seen w.atoms.atoms shown c.in-Err.error c.in-Err.ensures.err)) in
-    let new : IsWhole s marks w.atoms held = record { setting = whole.setting; marked = whole.marked; held = c.tell_both-told.ensures.held } in (
+    let new : IsWhole s marks w.atoms held = record { setting = whole.setting; marked = whole.marked; held = c.tell_both-told.ensures.held; variables = leaves_same s marks w.held.bounds held.bounds c.tell_both-told.ensures.variables.sums whole.variables } in (
       c.requires.progress.0,
       subst (λ (o : Option ℕ). IsNumbered s marks o w.atoms held) (sym c.in-None.is) new,
       subst (λ (o : Option ℕ). AreShown s sums w.branches c.seen_of.result (table_of o w.atoms.atoms)) (sym c.in-None.is) (shown_seen s sums w.branches w.seen c.seen_of.result w.atoms.atoms shown left),
@@ -42,7 +43,7 @@ returns-in-Ok-clause-progress c =
     let w = c.args.progress.now in
     let held = c.tell_both-told.new.held in
     let whole : IsWhole s marks w.atoms w.held = subst (λ (o : Option ℕ). IsNumbered s marks o w.atoms w.held) c.in-None.is c.requires.progress.1 in
-    let new : IsWhole s marks w.atoms held = record { setting = whole.setting; marked = whole.marked; held = c.tell_both-told.ensures.held } in (
+    let new : IsWhole s marks w.atoms held = record { setting = whole.setting; marked = whole.marked; held = c.tell_both-told.ensures.held; variables = leaves_same s marks w.held.bounds held.bounds c.tell_both-told.ensures.variables.sums whole.variables } in (
       c.requires.progress.0,
       subst (λ (o : Option ℕ). IsNumbered s marks o w.atoms held) (sym c.in-None.is) new,
       subst (λ (xs : List (List Summand)). AreShown s xs w.branches w.seen (table_of w.lost w.atoms.atoms)) (sym c.tell_both-told.ensures.variables.sums) c.requires.progress.2,

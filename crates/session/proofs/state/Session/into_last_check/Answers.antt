@@ -2,7 +2,7 @@ use Rattle.std.proofs.Common.{subst, sym, ◌∙◌, refl}
 use Rattle.smt_meaning.specs.State.{State}
 use Rattle.session.specs.Logics.{named}
 use Rattle.session.specs.Above.{above_by}
-use Rattle.session.specs.LastCheck.{IsOfLastCheck, is_after_check}
+use Rattle.session.specs.LastCheck.{IsOfLastCheck}
 use Rattle.session.proofs.Lasts.{of_last_check}
 use Rattle.session.proofs.state.Session.into_last_check.Goals as goal
 
