@@ -21,9 +21,9 @@ cat > "$folder/crates/closure_time/src/main.rt" << 'END'
 ghost use Rattle.std.specs.Prelude.{◌≡◌, [], ◌^◌, ◌+◌, ◌<◌, ◌≤◌, length, OnOk};
 ghost use Rattle.point_closure.specs.Whole.{IsWhole};
 
-use point_closure::{Closure, Shape, Step};
+use point_closure::{Closure, Explainer, Shape, Step};
+use std::alloc::AllocError;
 use std::io;
-use std::alloc::{AllocError, Global};
 use std::time::Instant;
 
 /// The next number that looks random, below a bound.
@@ -101,7 +101,12 @@ fn merge_random(
 }
 
 /// How many steps explain a pair, where it is equal.
-fn explain_pair(closure: &Closure, alloc: Global, a: u32, b: u32) -> Result<usize, AllocError>
+fn explain_pair(
+    closure: &Closure,
+    explainer: &mut Explainer,
+    a: u32,
+    b: u32,
+) -> Result<usize, AllocError>
     requires whole { IsWhole closure.now }
     requires a_within { a < length closure.now.graph }
     requires b_within { b < length closure.now.graph }
@@ -109,14 +114,14 @@ fn explain_pair(closure: &Closure, alloc: Global, a: u32, b: u32) -> Result<usiz
     if !closure.same(a, b) {
         return Ok(0);
     }
-    let told = closure.explain(alloc, a, b)?;
-    Ok(told.len())
+    closure.explain(explainer, a, b)?;
+    Ok(explainer.steps.len())
 }
 
 /// Explains random pairs that are equal, and adds up how many steps that takes.
 fn explain_random(
     closure: &Closure,
-    alloc: Global,
+    explainer: &mut Explainer,
     state: &mut u64,
     points: u32,
     pairs: u32,
@@ -129,7 +134,7 @@ fn explain_random(
     'pairs: for _ in 0..pairs {
         let a = below(state, points);
         let b = below(state, points);
-        let told = explain_pair(closure, alloc, a, b)?;
+        let told = explain_pair(closure, explainer, a, b)?;
         steps = steps.wrapping_add(told as u64);
     }
     Ok(steps)
@@ -140,6 +145,7 @@ fn run_chain(rt: &HostRuntime, count: u32) -> io::Result<()>
     requires few { count < 2 ^ 31 }
 {
     let mut closure = Closure::new(rt.alloc());
+    let mut explainer = Explainer::new(rt.alloc());
     let start = Instant::now(rt)?;
     add_chain(&mut closure, count)?;
     let added = start.elapsed(rt)?;
@@ -147,7 +153,7 @@ fn run_chain(rt: &HostRuntime, count: u32) -> io::Result<()>
     closure.record(Step::Merge(0, 1))?;
     let merged = start.elapsed(rt)?;
     let start = Instant::now(rt)?;
-    let told = explain_pair(&closure, rt.alloc(), 0, count)?;
+    let told = explain_pair(&closure, &mut explainer, 0, count)?;
     let explained = start.elapsed(rt)?;
     let start = Instant::now(rt)?;
     closure.undo_to(0);
@@ -163,6 +169,7 @@ fn run_random(rt: &HostRuntime, constants: u32, count: u32, merges: u32) -> io::
     requires order { constants ≤ count }
 {
     let mut closure = Closure::new(rt.alloc());
+    let mut explainer = Explainer::new(rt.alloc());
     let mut state: u64 = 12345;
     let start = Instant::now(rt)?;
     add_random(&mut closure, &mut state, constants, count)?;
@@ -171,7 +178,7 @@ fn run_random(rt: &HostRuntime, constants: u32, count: u32, merges: u32) -> io::
     merge_random(&mut closure, &mut state, count, merges)?;
     let merged = start.elapsed(rt)?;
     let start = Instant::now(rt)?;
-    let steps = explain_random(&closure, rt.alloc(), &mut state, count, 1000)?;
+    let steps = explain_random(&closure, &mut explainer, &mut state, count, 1000)?;
     let explained = start.elapsed(rt)?;
     let start = Instant::now(rt)?;
     closure.undo_to(0);

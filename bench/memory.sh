@@ -20,7 +20,7 @@ echo '|---|---|---|---|---|'
 # What was read is forgotten: each command drops the comment before it.
 comment=$(printf ';%01023d' 0)
 yes "$comment"$'\n''(set-option :print-success false)' | head -n 128000 | measured 32 '64,000 options, each behind a comment of 1 KB: 68 MB'
-# What stands between two commands is kept until the second is read.
+# What stands between two commands is let go as it comes.
 { yes "$comment" | head -n 64000; echo '(exit)'; } | measured 256 'one command behind comments: 66 MB'
 # Nothing of a command and of its reply is kept.
 yes '(set-option :print-success false)' | head -n 200000 | measured 32 '200,000 options'

@@ -1,4 +1,4 @@
-"""What is found of a script with a proof: read after the definitions (Proof, ProofRules, ProofReading, Linear, Atoms,
+"""What is found of a script with a proof: read after the definitions (Proof, Rules, Reading, Linear, Atoms,
 Range, Found), over Python's whole numbers, without any of the program's code.
 
 An atom is ("t", i), ("s", i, j) or ("le", ((i, c), ..), k) with ascending i; a literal is a pair of an atom and whether

@@ -5,25 +5,28 @@
 set -eu
 folder=$(mktemp -d)
 trap 'rm -rf "$folder"' EXIT
-libraries='fraction128 smt_meaning smt_laws race_model lemma_pool race_cell unit_tests'
+libraries='fraction128 smt_meaning smt_laws race_model lemma_pool race_cell'
 program="$folder/crates/timed_race"
-mkdir -p "$program/src"
+mkdir -p "$program/src" "$program/specs" "$program/proofs"
 for library in $libraries; do
     cp -a "crates/$library" "$folder/crates/"
     grep "^$library:" crates.txt >> "$folder/crates.txt"
 done
-echo 'timed_race: smt_meaning race_model lemma_pool race_cell atomic_table unit_tests' >> "$folder/crates.txt"
+echo 'timed_race: smt_meaning race_model lemma_pool race_cell atomic_table' >> "$folder/crates.txt"
 cat > "$program/src/main.rt" << 'END'
 //! Shares clauses and takes batches in one thread, and writes the nanoseconds of each: of 5,000 rounds the quickest.
 #![tactic(auto)]
-ghost use Rattle.unit_tests.specs.Jobs.{IsReady};
+
+ghost use Rattle.std.specs.Prelude.{◌≡◌, IfOk};
+ghost use Rattle.timed_race.specs.Levels.{IsReady, true_at, two_levels};
 
 use lemma_pool::Pool;
-use race_cell::{Pass, Race};
+use race_cell::{Batch, Pass, Race, Sharing};
+use race_model::{Framed, Shelf};
+use smt_meaning::{Atom, Clause, Literal, Seq};
+use std::alloc::{AllocError, Global};
 use std::io;
-use std::alloc::Global;
 use std::time::Instant;
-use unit_tests::{Empty, pool_of_two, share_one, take_some, true_clause};
 
 /// Shares, empty batches and clauses a round.
 const COUNT: u32 = 1_000;
@@ -36,6 +39,65 @@ struct Times {
     one_batch: u128,
     empty_batches: u128,
     done: u64,
+}
+
+/// A stack of two empty levels.
+#[derive(Drop)]
+struct Empty;
+
+impl Framed for Empty {
+    ghost use Rattle.timed_race.specs.Levels.{two_levels};
+
+    ghost base = { λ _. two_levels };
+}
+
+/// The clause `0 <= 0`, at a level.
+fn true_clause(alloc: Global, level: u16) -> Result<Clause, AllocError>
+    ensures { IfOk result (λ c. c ≡ true_at level) }
+{
+    let mut literals = Vec::new(alloc);
+    literals.push(Literal {
+        atom: Atom::AtMost(Seq::new(alloc), 0),
+        positive: true,
+    })?;
+    Ok(Clause {
+        literals: Seq::from_vec(literals),
+        level,
+    })
+}
+
+/// An empty pool over those levels.
+fn pool_of_two(alloc: Global) -> Pool<Empty>
+    ensures { (⟦<Pool<Empty> as Shelf>⟧.state result).base ≡ two_levels }
+{
+    let mut pool = Pool::new(alloc, &Empty);
+    pool.follow(&Empty, 2);
+    pool
+}
+
+/// Shares a true clause of level 0. 1 where it stands in the pool now, and 0 where it doesn't.
+fn share_one(alloc: Global, race: &Race<Pool<Empty>>, pass: &mut Pass<Pool<Empty>>) -> u64
+    requires { IsReady race.now.table.shared.table_id pass.old }
+    ensures { IsReady race.now.table.shared.table_id pass.new }
+{
+    let Ok(clause) = true_clause(alloc, 0) else {
+        return 0;
+    };
+    match race.share(pass, clause) {
+        Sharing::Shared(_) => 1,
+        _ => 0,
+    }
+}
+
+/// Takes a batch. The number of its entries.
+fn take_some(race: &Race<Pool<Empty>>, pass: &mut Pass<Pool<Empty>>) -> u64
+    requires { IsReady race.now.table.shared.table_id pass.old }
+    ensures { IsReady race.now.table.shared.table_id pass.new }
+{
+    match race.take_batch(pass) {
+        Batch::Batch(batch) => batch.len() as u64,
+        _ => 0,
+    }
 }
 
 fn make_many(alloc: Global) -> u64 {
@@ -134,10 +196,84 @@ fn main(rt: HostRuntime) -> io::Result<()> {
     Ok(())
 }
 END
+echo 'pub mod Levels' > "$program/specs/Lib.antt"
+cat > "$program/specs/Levels.antt" << 'END'
+-- Two empty levels, a clause that is always true, and what the calls keep of a pass.
+use Rattle.std.specs.Prelude.{ℕ, ◌≡◌, true, [], ◌∷◌, pos}
+use Rattle.atomic_table.specs.Seated.{TableId}
+use Rattle.smt_meaning.specs.declared.clauses.Atom.TheVariants.{AtMost}
+use Rattle.smt_meaning.specs.declared.clauses.Clause.{Clause}
+use Rattle.smt_meaning.specs.Stack.{empty_frame}
+use Rattle.race_model.specs.Base.{Base}
+use Rattle.race_model.specs.declared.shelf.Shelf.{Ghosts}
+use Rattle.race_cell.specs.declared.race.Pass.{Pass}
+use Rattle.race_cell.specs.Passes.{base_of}
+
+abbrev pub two_levels : Base
+two_levels = record { trees = []; frames = empty_frame ∷ empty_frame ∷ [] }
+
+-- 0 is at most 0
+abbrev pub true_at : ℕ → Clause
+true_at l = record { literals = record { atom = AtMost [] (pos 0); positive = true } ∷ []; level = l }
+
+-- a pass of this race, over the two levels
+abbrev pub IsReady : {S : Type 0} {G : Ghosts S} → TableId → Pass S G → Type 0
+IsReady {S} {G} z p = (p.seat.table_id ≡ z) × ((base_of G.state p).base ≡ two_levels)
+END
+echo 'pub mod Sound' > "$program/proofs/Lib.antt"
+cat > "$program/proofs/Sound.antt" << 'END'
+-- The clause that is always true follows from any levels.
+use Rattle.std.proofs.Common.{◌≡◌, ℕ, ◌<◌, length, refl, subst, sym}
+use Rattle.std.proofs.lemmas.List.Elements.{All-nil}
+use Rattle.smt_meaning.specs.Follows.{follows}
+use Rattle.smt_meaning.specs.declared.clauses.Clause.{Clause}
+use Rattle.race_model.specs.Base.{Base}
+use Rattle.race_model.specs.Laws.{IsSound}
+use Rattle.timed_race.specs.Levels.{true_at}
+
+pub sound_at : (b : Base) (l : ℕ) → l < length b.frames → IsSound b (true_at l)
+sound_at b l lt = record {
+  follows = follows b.trees b.frames l (true_at l) (record {
+    true_wherever = λ I i h. refl;
+    declared = All-nil _;
+    within = All-nil _;
+  });
+  within = lt;
+}
+
+pub sound_clause : (b : Base) (l : ℕ) (c : Clause) → c ≡ true_at l → l < length b.frames → IsSound b c
+sound_clause b l c e lt = subst (IsSound b) (sym e) (sound_at b l lt)
+END
+mkdir -p "$program/proofs/pool_of_two" "$program/proofs/share_one"
+cat > "$program/proofs/pool_of_two/Answers.antt" << 'END'
+use Rattle.std.proofs.Common.{[], ◌∷◌, refl, subst, sym, ap}
+use Rattle.race_model.specs.Base.{Base}
+use Rattle.race_model.specs.Shelves.{ShelfState}
+use Rattle.lemma_pool.specs.Pools.{Grows, levels}
+use Rattle.timed_race.specs.Levels.{two_levels}
+use Rattle.timed_race.proofs.pool_of_two.Goals as goal
+
+pub follow-requires-clause-grows : goal.follow-requires-clause-grows
+follow-requires-clause-grows c =
+    subst (λ (b : Base). Grows b two_levels) (sym (ap (λ (s : ShelfState). s.base) c.new-pool.ensures))
+    (record { steps = levels 2 ∷ []; frames = refl; more = []; trees = refl })
+END
+cat > "$program/proofs/share_one/Answers.antt" << 'END'
+use Rattle.std.proofs.Common.{subst, sym, arith}
+use Rattle.race_model.specs.Base.{Base}
+use Rattle.race_model.specs.Laws.{IsSound}
+use Rattle.timed_race.specs.Levels.{two_levels}
+use Rattle.timed_race.proofs.Sound.{sound_clause}
+use Rattle.timed_race.proofs.share_one.Goals as goal
+
+pub share-requires-clause-follows : goal.share-requires-clause-follows
+share-requires-clause-follows c =
+    subst (λ (b : Base). IsSound b c.in-Ok.clause) (sym c.requires.1) (sound_clause two_levels 0 c.in-Ok.clause c.in-Ok.ensures (omega arith))
+END
 for function in share_many take_many; do
     mkdir -p "$program/proofs/$function"
     cat > "$program/proofs/$function/Invariants.antt" << END
-use Rattle.unit_tests.specs.Jobs.{IsReady}
+use Rattle.timed_race.specs.Levels.{IsReady}
 use Rattle.timed_race.proofs.$function.Given as goal
 
 abbrev pub invariant-loop : goal.invariant-loop

@@ -6,7 +6,7 @@ set -eu
 limit=${1:-60}
 folder=$(mktemp -d)
 trap 'rm -rf "$folder"' EXIT
-libraries='fraction128 smt_meaning literals clause_store conflict_learn search_port search_order cdcl_core'
+libraries='fraction128 smt_meaning smt_laws literals clause_store conflict_learn search_port search_order cdcl_core'
 mkdir -p "$folder/crates/dimacs_search/src"
 for library in $libraries; do
     cp -a "crates/$library" "$folder/crates/"

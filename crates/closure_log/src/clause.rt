@@ -46,16 +46,16 @@ fn against_even(literal: Literal, is_odd: bool) -> Literal
 
 /// The clause of what was read of a part: the open term's truth follows, or the clause is false. None where an even count of the truths told is true, and none is open.
 fn pressed(read: Read) -> Result<Option<Lemma>, AllocError>
-    ensures { IfOk result (λ o. IfSome o (PressesWhereRead read.clause.items read.open read.is_odd)) }
+    ensures { IfOk result (λ o. IfSome o (PressesWhereRead read.clause.items read.open_truth read.is_odd)) }
 {
     odd_clause_is_true();
     flat_says_the_same();
     let Read {
         mut clause,
-        open,
+        open_truth,
         is_odd,
     } = read;
-    match open {
+    match open_truth {
         Some(literal) => {
             clause.push(against_even(literal, is_odd))?;
             Ok(Some(lemma_of(clause)))
@@ -121,7 +121,7 @@ fn broken_at(
     let Some(read) = read_part(alloc, atoms, places, log, place, arguments)? else {
         return Ok(None);
     };
-    if read.open.is_some() || !read.is_odd {
+    if read.open_truth.is_some() || !read.is_odd {
         return Ok(None);
     }
     Ok(Some(false_clause(read.clause)))

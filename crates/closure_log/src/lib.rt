@@ -8,8 +8,8 @@
 //! Parts that have no first clauses: a `xor` of more than three Bools, whose clauses would be 2^n, and
 //! a wide `distinct` that is an assertion, whose pairs would be n^2.
 //!
-//! `pressing`, `Watches`: a part of whose terms all are told but at most one gives its clause, true
-//! under every interpretation: the open term's truth follows, or the clause is false.
+//! `pressing`, `Watches`: of a part of whose terms all are told but at most one the clause that is
+//! found is true under every interpretation: the open term's truth follows, or the clause is false.
 //!
 //! `wide_xors`, `broken`: all such parts of a stack; a conflict where the truths told of one and of
 //! its arguments aren't what `xor` makes of them. Where there is none, each has its operator's value.

@@ -65,7 +65,7 @@ pub(crate) struct Read {
     /// Against each truth told.
     pub(crate) clause: Vec<Literal>,
     /// That the term is true that is open.
-    pub(crate) open: Option<Literal>,
+    pub(crate) open_truth: Option<Literal>,
     /// Whether an odd count of the truths told is true.
     pub(crate) is_odd: bool,
 }
@@ -79,7 +79,7 @@ fn flipped(is_odd: bool, truth: bool) -> bool
 /// Adds a truth told. After an `Err` nothing is said.
 fn add_told(read: &mut Read, literal: Literal) -> Result<(), AllocError>
     ensures clause { OnOk result (read.new.clause.items ≡ read.old.clause.items ++ opposite literal ∷ []) }
-    ensures open { OnOk result (read.new.open ≡ read.old.open) }
+    ensures open { OnOk result (read.new.open_truth ≡ read.old.open_truth) }
     ensures odd { OnOk result (read.new.is_odd ≡ xor read.old.is_odd literal.positive) }
 {
     read.clause.push(literal.negated())?;
@@ -96,17 +96,17 @@ fn read_term(
     term: TermId,
 ) -> Result<bool, AllocError>
     requires { IsPlacedLog atoms.now.atoms log.now places.now }
-    ensures goes { IfOk result (λ goes. goes ≡ true → (ps : List ℕ) → IsRead atoms.now.atoms log.now ps read.old.clause.items read.old.open read.old.is_odd → IsRead atoms.now.atoms log.now (ps ++ term ∷ []) read.new.clause.items read.new.open read.new.is_odd) }
+    ensures goes { IfOk result (λ goes. goes ≡ true → (ps : List ℕ) → IsRead atoms.now.atoms log.now ps read.old.clause.items read.old.open_truth read.old.is_odd → IsRead atoms.now.atoms log.now (ps ++ term ∷ []) read.new.clause.items read.new.open_truth read.new.is_odd) }
     ensures stops { IfOk result (λ goes. goes ≡ false → IsUntold atoms.now.atoms log.now term) }
 {
     atoms.are_apart();
     match said_of(atoms, places, log, term) {
         Said::Nothing => Ok(false),
         Said::Open(literal) => {
-            if read.open.is_some() {
+            if read.open_truth.is_some() {
                 return Ok(false);
             }
-            read.open = Some(literal);
+            read.open_truth = Some(literal);
             Ok(true)
         }
         Said::Told(literal) => {
@@ -119,12 +119,12 @@ fn read_term(
 /// No term is read.
 fn unread(alloc: Global) -> Read
     ensures clause { result.clause.items ≡ [] }
-    ensures open { result.open ≡ None }
+    ensures open { result.open_truth ≡ None }
     ensures odd { result.is_odd ≡ false }
 {
     Read {
         clause: Vec::new(alloc),
-        open: None,
+        open_truth: None,
         is_odd: false,
     }
 }
@@ -139,7 +139,7 @@ pub(crate) fn read_part(
     arguments: &[TermId],
 ) -> Result<Option<Read>, AllocError>
     requires { IsPlacedLog atoms.now.atoms log.now places.now }
-    ensures { IfOk result (λ o. MatchOption o (LacksOne atoms.now.atoms log.now (place ∷ arguments.now)) (λ r. IsRead atoms.now.atoms log.now (place ∷ arguments.now) r.clause.items r.open r.is_odd)) }
+    ensures { IfOk result (λ o. MatchOption o (LacksOne atoms.now.atoms log.now (place ∷ arguments.now)) (λ r. IsRead atoms.now.atoms log.now (place ∷ arguments.now) r.clause.items r.open_truth r.is_odd)) }
 {
     let mut read = unread(alloc);
     if !read_term(&mut read, atoms, places, log, place)? {

@@ -6,5 +6,4 @@ pub mod Justifying
 pub mod Reasoning
 pub mod Clausing
 pub mod Implying
-pub mod Declared
 pub mod Recording

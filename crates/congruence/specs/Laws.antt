@@ -1,5 +1,5 @@
 -- Laws of justified steps.
-use Rattle.std.specs.Prelude.{◌≡◌, ℕ, Bool, true, List, All, Contains}
+use Rattle.std.specs.Prelude.{◌≡◌, ℕ, true, List, All, Contains}
 use Rattle.literals.specs.Signed.{Signed, literal_true}
 use Rattle.smt_meaning.specs.declared.clauses.Atom.{Atom}
 use Rattle.smt_meaning.specs.declared.clauses.Atom.TheVariants.{Truth, Same}
@@ -7,18 +7,15 @@ use Rattle.smt_meaning.specs.declared.terms.Head.{Head}
 use Rattle.smt_meaning.specs.Declaration.{Declaration}
 use Rattle.smt_meaning.specs.Term.{Tree, Interpretation, tree_at}
 use Rattle.smt_meaning.specs.Interpretation.{Interprets}
-use Rattle.smt_meaning.specs.Stack.{Frame, signature_of}
 use Rattle.term_store.specs.Terms.{tree_with}
 use Rattle.search_port.specs.State.{atom_at}
-use Rattle.search_port.specs.Valid.{IsOf}
 use Rattle.point_closure.specs.declared.step.Step.{Step}
 use Rattle.point_closure.specs.Closure.{Point, AreRead}
 use Rattle.point_closure.specs.Laws.{point_value}
 use Rattle.congruence.specs.declared.congruence.Congruence.{Congruence}
 use Rattle.congruence.specs.Reasons.{AreReasonsOf}
 use Rattle.congruence.specs.Recorded.{IsConflict as IsClash}
-use Rattle.check_atoms.specs.Parts.{AreParts}
-use Rattle.check_atoms.specs.Atoms.{is_bool_at, AreAtoms}
+use Rattle.check_atoms.specs.Atoms.{is_bool_at}
 use Rattle.congruence.specs.Steps.{truth_step, pair_step, node_steps, choice_steps}
 use Rattle.congruence.specs.Justified.{truth_by, IsJustified, AreJustified}
 use Rattle.congruence.specs.Clauses.{IsFalseClause}
@@ -60,11 +57,3 @@ ClashIsFalseClause =
     (ds : List Declaration) (ts : List Tree) (table : List Atom) (c : Congruence) (log ls : List Signed)
     → AreRead ts c.closure.graph → AreJustified ds ts table c.closure.steps.items c.reasons.items → All (Contains log) c.reasons.items → IsClash c ls
     → IsFalseClause ds ts table log ls
-
--- ---- atoms
-
--- the atoms of the parts are over the symbols of the signature, and over the trees
-abbrev pub AtomsAreDeclared : Type 0
-AtomsAreDeclared =
-    (ds : List Declaration) (ts : List Tree) (marks : List Bool) (table : List Atom) (frames : List Frame) → AreParts ds ts marks → AreAtoms ds ts marks table → signature_of frames ≡ ds
-    → All (IsOf ts frames) table

@@ -4,11 +4,8 @@ use Rattle.literals.specs.Signed.{Signed, opposite}
 use Rattle.point_closure.specs.declared.step.Step.{Step}
 use Rattle.point_closure.specs.declared.step.Step.TheVariants.{Differ}
 use Rattle.point_closure.specs.declared.watch.Watch.{Watch}
-use Rattle.point_closure.specs.declared.watch.Watched.TheVariants.{Step as AtStep}
-use Rattle.point_closure.specs.Rest.{watch_at}
-use Rattle.congruence.specs.declared.differing.Differing.{Differing}
-use Rattle.point_closure.specs.Closure.{Point}
-use Rattle.point_closure.specs.Explained.{step_at, Explains}
+use Rattle.point_closure.specs.Closure.{Point, Equal}
+use Rattle.point_closure.specs.Explained.{merged, step_at, Explains}
 
 abbrev pub reason_at : List Signed → ℕ → Signed
 reason_at rs s = slice_index_or rs s (record { atom = 0; positive = true })
@@ -53,8 +50,10 @@ pub record IsStepConflict (ps : List Point) (log : List Step) (rs : List Signed)
   pub explains : Explains ps log steps left right
   pub literals : AreEachOnce (negation_at rs differ ∷ map (negation_at rs) steps) ls
 
--- one of these watched pairs is that of a step
-pub record IsAmong (ws : List Watch) (ks : List ℕ) (d : Differing) : Type 0 where
-  pub pair : ℕ
-  pub met : Contains ks pair
-  pub is : watch_at ws pair ≡ record { left = d.left; right = d.right; watched = AtStep d.step }
+-- a step keeps these two points apart, which are equal
+pub record IsDiffering (ps : List Point) (log : List Step) (w : Watch) : Type 0 where
+  pub within : w.step < length log
+  pub left : w.left < length ps
+  pub right : w.right < length ps
+  pub step : step_at log w.step ≡ Differ w.left w.right
+  pub equal : Equal ps (merged log) w.left w.right

@@ -1,12 +1,11 @@
 //! Terms that are equal or differ, each for a reason.
-ghost use Rattle.std.specs.Prelude.{◌≡◌, ◌+◌, ◌<◌, ◌≤◌, ◌^◌, [], ◌∷◌, ◌++◌, length, take, List, OnOk, OnErr, IfOk, IfSome, IfNone, IsTrue, ◌↔◌};
+ghost use Rattle.std.specs.Prelude.{◌≡◌, ◌+◌, ◌<◌, ◌≤◌, ◌^◌, [], length, take, List, OnOk, IfOk, IfSome, IfNone, IsTrue, ◌↔◌};
 
-use crate::differing::{Differing, first_differing};
 use crate::explanation::Explanation;
 use crate::reading::{arguments_of, shape_of};
 use crate::reasons::{add_negations, each_once, keep_each_once, put_reasons};
 use literals::Literal;
-use point_closure::{Closure, Explainer, Shape, Step, Watch, Watched, equal_points_have_one_value};
+use point_closure::{Closure, Explainer, Shape, Step, Watch, equal_points_have_one_value};
 use smt_meaning::TermId;
 use std::alloc::{AllocError, Global};
 use term_store::TermStore;
@@ -24,9 +23,8 @@ impl Congruence {
     ghost use Rattle.smt_meaning.specs.Term.{Tree};
     ghost use Rattle.point_closure.specs.Closure.{AreRead};
     ghost use Rattle.point_closure.specs.Whole.{IsWithin};
-    ghost use Rattle.congruence.specs.Reasons.{AreReasonsOf, IsTruthConflict, IsStepConflict};
     ghost use Rattle.congruence.specs.Reading.{AreSeen};
-    ghost use Rattle.congruence.specs.Recorded.{IsRecorded, AddsStep, AreEqualTerms, HaveOneValue, IsConsistent, IsConflict};
+    ghost use Rattle.congruence.specs.Recorded.{IsRecorded, AddsStep};
 
     /// Nothing is read, nothing recorded.
     pub fn new(alloc: Global) -> Result<Self, AllocError>
@@ -103,45 +101,6 @@ impl Congruence {
         Ok(())
     }
 
-    /// Watches two points, for the literal with a code, until the steps of now are taken back. An `Err` changes nothing that contracts see.
-    pub fn watch(&mut self, left: u32, right: u32, code: u32) -> Result<(), AllocError>
-        requires recorded { IsRecorded self.old }
-        requires left { left < length self.old.closure.graph }
-        requires right { right < length self.old.closure.graph }
-        ensures recorded { IsRecorded self.new }
-        ensures graph { self.new.closure.graph ≡ self.old.closure.graph }
-        ensures steps { self.new.closure.steps.items ≡ self.old.closure.steps.items }
-        ensures reasons { self.new.reasons.items ≡ self.old.reasons.items }
-    {
-        self.closure.watch(Watch {
-            left,
-            right,
-            watched: Watched::Equality(code),
-        })
-    }
-
-    /// How many watched pairs are known to be of equal points.
-    pub fn met_count(&self) -> usize
-        requires { IsRecorded self.now }
-    {
-        self.closure.met().len()
-    }
-
-    /// The literal for which the pair with this index is watched, of those known to be of equal points, oldest first. None where it is watched for none.
-    pub fn asked(&self, index: usize) -> Option<Literal>
-        requires { IsRecorded self.now }
-    {
-        let met = self.closure.met();
-        if index >= met.len() {
-            return None;
-        }
-        match self.closure.pair_at(met[index]).watched {
-            Watched::Equality(code) => Some(Literal::new(code / 2, code % 2 == 0)),
-            Watched::Truths => None,
-            Watched::Step(_) => None,
-        }
-    }
-
     /// Takes back all steps but the first.
     pub fn undo_to(&mut self, depth: usize)
         requires recorded { IsRecorded self.old }
@@ -157,10 +116,10 @@ impl Congruence {
 
 impl Congruence {
     ghost use Rattle.smt_meaning.specs.Term.{Tree};
-    ghost use Rattle.point_closure.specs.declared.step.Step.TheVariants.{Differ};
     ghost use Rattle.point_closure.specs.Closure.{AreRead, Equal};
-    ghost use Rattle.point_closure.specs.Explained.{merged, step_at};
-    ghost use Rattle.congruence.specs.Reasons.{AreReasonsOf, IsTruthConflict, IsStepConflict, NoneTwice};
+    ghost use Rattle.point_closure.specs.Explained.{merged};
+    ghost use Rattle.point_closure.specs.Whole.{AreStepsApart};
+    ghost use Rattle.congruence.specs.Reasons.{AreReasonsOf, IsTruthConflict, IsStepConflict, IsDiffering, NoneTwice};
     ghost use Rattle.congruence.specs.Recorded.{IsRecorded, AreEqualTerms, HaveOneValue, IsConsistent, IsConflict};
 
     /// Whether the merges make two terms equal.
@@ -232,19 +191,25 @@ impl Congruence {
         Ok(each_once(clause))
     }
 
+    /// The first step that keeps equal points apart.
+    fn first_differing(&self) -> Option<Watch>
+        requires recorded { IsRecorded self.now }
+        ensures some { IfSome result (IsDiffering self.now.closure.graph self.now.closure.steps.items) }
+        ensures none { IfNone result (AreStepsApart self.now.closure.graph self.now.closure.steps.items) }
+    {
+        let pair = self.closure.met().first()?;
+        Some(self.closure.pairs[*pair as usize])
+    }
+
     /// Why the points of a step that keeps them apart can't be equal.
     fn step_conflict(
         &self,
         alloc: Global,
         explainer: &mut Explainer,
-        found: Differing,
+        found: Watch,
     ) -> Result<Vec<Literal>, AllocError>
         requires recorded { IsRecorded self.now }
-        requires left { found.left < length self.now.closure.graph }
-        requires right { found.right < length self.now.closure.graph }
-        requires within { found.step < length self.now.closure.steps.items }
-        requires step { step_at self.now.closure.steps.items found.step ≡ Differ found.left found.right }
-        requires equal { Equal self.now.closure.graph (merged self.now.closure.steps.items) found.left found.right }
+        requires differing { IsDiffering self.now.closure.graph self.now.closure.steps.items found }
         ensures is { IfOk result (λ v. IsStepConflict self.now.closure.graph self.now.closure.steps.items self.now.reasons.items v.items) }
         ensures once { IfOk result (λ v. NoneTwice v.items) }
     {
@@ -270,7 +235,7 @@ impl Congruence {
             let clause = self.truth_conflict(alloc, &mut explanation.explainer)?;
             return Ok(Some(clause));
         }
-        match first_differing(&self.closure.pairs, self.closure.met()) {
+        match self.first_differing() {
             None => Ok(None),
             Some(found) => {
                 let clause = self.step_conflict(alloc, &mut explanation.explainer, found)?;

@@ -15,15 +15,13 @@
 //!
 //! `each_once`, `Explanation`: in each of these lists no literal stands twice.
 //!
-//! `watch`: two points are watched for a literal; points, steps and reasons stay.
-//!
 //! What literals say of terms, as steps of a closure, and the clauses that reasons of steps give.
 //!
 //! `add_truth_step`, `add_pair_step`, `add_node_steps`, `add_choice_steps`, `record_all`: exactly
 //! the steps that a literal says of terms; what is recorded for reasons that justify it stays
 //! justified, on an error too.
 //!
-//! `add_reasons`, `lemma_of`, `lemma_with`, and 7 laws: each such step holds under every
+//! `add_reasons`, `lemma_of`, `lemma_with`, and 6 laws: each such step holds under every
 //! interpretation that makes its literal true. A clash of justified steps is a clause that is true
 //! under every interpretation, and false where the reasons are told; so are clauses with the
 //! reasons of an equality. A clause that is made of a list has each literal once.
@@ -36,11 +34,10 @@
 //! is no clause where there are more reasons than so many.
 #![tactic(auto)]
 
-ghost use Rattle.congruence.specs.Laws.{AtomsAreDeclared, ChoiceStepsAreJustified, ClashIsFalseClause, NodeStepsAreJustified, ReasonsMakeEqual, SamenessIsJustified, TruthIsJustified};
+ghost use Rattle.congruence.specs.Laws.{ChoiceStepsAreJustified, ClashIsFalseClause, NodeStepsAreJustified, ReasonsMakeEqual, SamenessIsJustified, TruthIsJustified};
 
 mod clause;
 mod congruence;
-mod differing;
 mod explanation;
 mod implied;
 mod reading;
@@ -90,11 +87,4 @@ pub fn clash_is_false_clause()
     ensures { ClashIsFalseClause }
 {
     point_closure::equal_points_have_one_value();
-}
-
-/// The atoms of the parts of a check are over what the signature declares.
-pub fn atoms_are_declared()
-    ensures { AtomsAreDeclared }
-{
-    smt_laws::symbols_are_declared();
 }

@@ -3,9 +3,6 @@
 //!
 //! `term`, `body`: exactly what judging the term gives, with the names that it gives and the terms
 //! that it adds. A refusal or want of memory leaves names and terms as they were.
-//!
-//! `is_divisor`, `is_quotient_of`: whether a stored term may divide, and whether it is the quotient of
-//! two others.
 #![tactic(auto)]
 
 ghost use Rattle.std.specs.Prelude.{◌≡◌, ◌<◌, [], length, IfOk, IfErr, OnErr};

@@ -1,5 +1,5 @@
 //! A list that is read, grown and cut at its newest end.
-ghost use Rattle.std.specs.Prelude.{◌≡◌, ◌∷◌, [], List, drop, length, OnOk, OnErr, IfSome, IfNone};
+ghost use Rattle.std.specs.Prelude.{◌≡◌, ◌∷◌, [], List, OnOk, OnErr, IfSome, IfNone};
 
 use std::alloc::{AllocError, Global};
 use std::marker::Model;
@@ -27,12 +27,6 @@ impl<T: Drop> Stack<T> {
         }
     }
 
-    pub fn len(&self) -> usize
-        ensures { result ≡ length self.now }
-    {
-        self.items.len()
-    }
-
     /// Puts an item on top. An `Err`, for want of memory, changes nothing.
     pub fn push(&mut self, item: T) -> Result<(), AllocError>
         ensures ok { OnOk result (self.new ≡ item ∷ self.old) }
@@ -48,14 +42,6 @@ impl<T: Drop> Stack<T> {
         ensures none { IfNone result ((self.old ≡ []) × (self.new ≡ [])) }
     {
         self.items.pop()
-    }
-
-    /// Takes so many of the newest items off.
-    pub fn drop_newest(&mut self, count: usize)
-        ensures { self.new ≡ drop count self.old }
-    {
-        let kept = self.items.len().saturating_sub(count);
-        self.items.truncate(kept);
     }
 
     /// The newest item.

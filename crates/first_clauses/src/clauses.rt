@@ -123,7 +123,7 @@ fn check_clauses_from<L: Ledger>(
 
 /// The clauses that a search begins with, at level 0: of each part that is a node of Bools those of its operator over their truths, of each other part those that tie
 /// it to what it compares or chooses, but of a wide `distinct` that is an assertion, of terms that are no Bools, none, and for each assertion the clause that it is true. They force the clauses of each part. Of each triangle that is one, two
-/// equalities give the third, and of each diamond what it says. An `Err` says that memory is wanting, or of which part folding a bound or the divisor leaves the range. The atoms and the forms stay as they are.
+/// equalities give the third, and where there is one, of each diamond what it says. An `Err` says that memory is wanting, or of which part folding a bound or the divisor leaves the range. The atoms and the forms stay as they are.
 pub fn check_clauses(
     alloc: Global,
     stack: &Stack,

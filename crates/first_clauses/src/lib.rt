@@ -7,8 +7,8 @@
 //! `check_clauses`: in the store that a search begins with each clause follows, also that two
 //! equalities of a triangle give the third. Each assertion is one, of each part the clauses of its
 //! operator are kept, the longer ones with what negations negate, and together they force every
-//! node clause of every part. Where both cases of a disjunction lead from one term to the same other,
-//! there is a clause that it makes them equal.
+//! node clause of every part. Where there is such a triangle, and both cases of a disjunction lead
+//! from one term to the same other, there is a clause that it makes them equal.
 //!
 //! `first_clauses_say_standing`: what makes them true has a bound of each list that stands whatever is
 //! decided, the bounds that conjuncts of assertions say and the clauses of divisions.

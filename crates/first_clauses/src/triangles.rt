@@ -127,7 +127,7 @@ fn keep_implied(
     )
 }
 
-/// Keeps of each triangle that two of its equalities give the third, and of each diamond what it says.
+/// Keeps of each triangle that two of its equalities give the third, and, where there is one, of each diamond what it says.
 pub(crate) fn keep_triangles(
     stack: &Stack,
     atoms: &AtomNumbers,

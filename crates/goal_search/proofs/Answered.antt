@@ -1,5 +1,5 @@
 -- What a verdict answers in any state of which it is found.
-use Rattle.std.proofs.Common.{◌≡◌, ℕ, ℤ, Bool, true, List, refl, ap, sym, subst}
+use Rattle.std.proofs.Common.{◌≡◌, ℕ, ℤ, List, refl, ap, sym, subst}
 use Rattle.smt_meaning.specs.declared.answers.Mode.{Mode}
 use Rattle.smt_meaning.specs.declared.values.Table.{Table}
 use Rattle.smt_meaning.specs.declared.reports.Report.{Report}
@@ -43,10 +43,9 @@ verdict_at v t ts frames workers limit a b w c h =
     (subst (λ l. IsVerdict workers t.stack.trees (checked_frames t) l v) (sym c)
     (subst (λ fs. IsVerdict workers t.stack.trees fs limit v) (sym b) (subst (λ us. IsVerdict workers us frames limit v) (sym a) h)))
 
-pub found_answers : (decided : List Frame → Bool) (workers : ℕ) (limit : ℤ) (s : Stack) (v : Verdict) (a : Answer) → decided s.frames ≡ true → IsVerdict workers s.trees s.frames limit v → IsAnswerBy v a → WhereUnsat a.mode (v ≡ Unsat)
-    → IsChecked decided workers limit s a
-found_answers decided workers limit s v a taken verdict answers unsat = record {
-  taken = taken;
+pub found_answers : (workers : ℕ) (limit : ℤ) (s : Stack) (v : Verdict) (a : Answer) → IsVerdict workers s.trees s.frames limit v → IsAnswerBy v a → WhereUnsat a.mode (v ≡ Unsat)
+    → IsChecked workers limit s a
+found_answers workers limit s v a verdict answers unsat = record {
   answer = λ t trees frames crew lim. answers t (verdict_at v t s.trees s.frames workers limit trees frames crew lim verdict);
   refuted = where_unsat a.mode (v ≡ Unsat) (HasNoModel s.frames) (λ u. subst (IsVerdict workers s.trees s.frames limit) u verdict) unsat;
 }

@@ -1,16 +1,17 @@
 -- One question: what is assumed for it, and the stack before it.
-use Rattle.std.proofs.Common.{◌≡◌, ◌∙◌, sym, subst, refl, ℕ, List, [], ◌∷◌, ◌++◌, Bool, ℤ, Option, Some, Err}
+use Rattle.std.proofs.Common.{◌≡◌, ◌∙◌, sym, subst, refl, ℕ, List, [], ◌∷◌, ◌++◌, ℤ, Err}
+use Rattle.std.specs.Prelude.{Result, IfOk}
 use Rattle.smt_meaning.specs.declared.tokens.Token.{Token}
 use Rattle.smt_meaning.specs.declared.refusals.Refusal.{Refusal}
 use Rattle.smt_meaning.specs.Sorts.{done, refused, Scope}
 use Rattle.smt_meaning.specs.StackCommand.{Stack, assumes, judged, changed}
-use Rattle.smt_meaning.specs.Stack.{Assertion, Frame}
+use Rattle.smt_meaning.specs.Stack.{Assertion}
 use Rattle.smt_meaning.specs.State.{frame_of}
 use Rattle.scope_stack.specs.declared.answers.StackError.{StackError}
 use Rattle.scope_stack.specs.declared.answers.StackError.TheVariants.{Refused}
 use Rattle.scope_stack.specs.Carries.{Assumes, IsAssumed, IsRefused, assumption, under}
+use Rattle.std.specs.declared.alloc.AllocError.{AllocError}
 use Rattle.theory_port.specs.declared.decider.Verdict.{Verdict}
-use Rattle.theory_port.specs.Found.{IsFound}
 use Rattle.theory_port.specs.Verdicts.{IsVerdict}
 
 module _ (texts : List (List Token)) (xs : List Assertion) (s : Stack) (c : Scope) (judges : judged (assumption texts) s ≡ done (assumes xs) c) where
@@ -34,9 +35,8 @@ module _ (texts : List (List Token)) (xs : List Assertion) (s : Stack) (c : Scop
 
   -- a verdict on what stands above is one on what is judged
   pub verdict_under : (others : List (List Token)) → others ≡ texts → (assumed : List Assertion) (new : Stack) → IsAssumed others assumed s new
-      → (workers : ℕ) (decided : List Frame → Bool) (limit : ℤ) (found : Option Verdict) (v : Verdict) → found ≡ Some v → IsFound workers decided new.trees new.frames limit found
-      → IsVerdict workers c.trees (s.frames ++ frame_of xs ∷ []) limit v
-  verdict_under others same assumed new h workers decided limit found v is f =
+      → (workers : ℕ) (limit : ℤ) (found : Result Verdict AllocError) → IfOk found (IsVerdict workers new.trees new.frames limit)
+      → IfOk found (IsVerdict workers c.trees (s.frames ++ frame_of xs ∷ []) limit)
+  verdict_under others same assumed new h workers limit found f =
       let e : new ≡ under xs (changed s (assumes xs) c) = stands_under assumed new (subst (λ (ts : List (List Token)). IsAssumed ts assumed s new) same h) in
-      let g : IsFound workers decided new.trees new.frames limit (Some v) = subst (λ (o : Option Verdict). IsFound workers decided new.trees new.frames limit o) is f in
-      subst (λ (n : Stack). IsVerdict workers n.trees n.frames limit v) e g.1
+      subst (λ (n : Stack). IfOk found (IsVerdict workers n.trees n.frames limit)) e f

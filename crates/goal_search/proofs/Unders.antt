@@ -1,5 +1,5 @@
 -- Checks under assumptions, step by step.
-use Rattle.std.proofs.Common.{◌≡◌, ℕ, ◌+◌, ◌<◌, ◌≤◌, ℤ, Bool, false, List, [], ◌∷◌, ◌++◌, map, drop, length, ap, sym, subst, ◌∙◌, refl, arith, All, append-nil}
+use Rattle.std.proofs.Common.{◌≡◌, ℕ, ◌+◌, ◌<◌, ◌≤◌, ℤ, List, [], ◌∷◌, ◌++◌, map, drop, length, ap, sym, subst, ◌∙◌, refl, arith, All, append-nil}
 use Rattle.std.specs.Prelude.{flat_map}
 use Rattle.std.proofs.lemmas.List.{drop-map, length-map, length-append}
 use Rattle.std.proofs.lemmas.List.Elements.{All-drop}
@@ -17,7 +17,7 @@ use Rattle.scope_stack.specs.Inside.{asserted_by, IsWithin}
 use Rattle.scope_stack.specs.Shown.{AreAsserted, IsLawful}
 use Rattle.goal_search.specs.declared.answer.Answer.{Answer}
 use Rattle.goal_search.specs.declared.assuming.Assumed.{Assumed}
-use Rattle.goal_search.specs.Assumed.{IsCheckedUnder, IsNotTakenUnder, IsRefutedUnder}
+use Rattle.goal_search.specs.Assumed.{IsCheckedUnder, IsRefutedUnder}
 use Rattle.goal_search.specs.Checked.{IsChecked}
 use Rattle.goal_search.specs.Under.{IsAnsweredUnder}
 use Rattle.goal_search.proofs.Answered.{where_unsat}
@@ -27,10 +27,10 @@ use Rattle.goal_search.proofs.Answered.{where_unsat}
 pub many_asserted : (s : Stack) (xs : List Assertion) → AreAsserted s xs → length xs ≡ length (assertions_of s.frames)
 many_asserted s xs h = sym (length-map xs (λ (a : Assertion). tree_at s.trees a.term)) ∙ ap length h.terms
 
-pub answered_under : (decided : List Frame → Bool) (workers : ℕ) (limit : ℤ) (below : ℕ) (s : Stack) (a : Answer) (xs ys : List Assertion)
-    → IsChecked decided workers limit s a → AreAsserted s xs → ys ≡ drop below xs → depth s.frames ≤ most_levels → IsLawful s
-    → IsAnsweredUnder decided workers limit below s (record { answer = a; assumptions = ys })
-answered_under decided workers limit below s a xs ys check asserted e deep lawful = record {
+pub answered_under : (workers : ℕ) (limit : ℤ) (below : ℕ) (s : Stack) (a : Answer) (xs ys : List Assertion)
+    → IsChecked workers limit s a → AreAsserted s xs → ys ≡ drop below xs → depth s.frames ≤ most_levels → IsLawful s
+    → IsAnsweredUnder workers limit below s (record { answer = a; assumptions = ys })
+answered_under workers limit below s a xs ys check asserted e deep lawful = record {
   check = check;
   texts = ap (map (λ (x : Assertion). x.text)) e ∙ sym (drop-map (λ (x : Assertion). x.text) below xs) ∙ ap (drop below) asserted.texts;
   terms = ap (map (λ (x : Assertion). tree_at s.trees x.term)) e ∙ sym (drop-map (λ (x : Assertion). tree_at s.trees x.term) below xs) ∙ ap (drop below) asserted.terms;
@@ -94,10 +94,10 @@ refuted_again assumed old new mid xs e m same within deep some lawful none = rec
 
 -- ---- the whole
 
-pub checked_under : (decided : List Frame → Bool) (workers : ℕ) (limit : ℤ) (texts : List (List Token)) (assumed : List Asserted) (old mid new : Stack) (xs : List Assertion) (a : Assumed)
-    → AreAsserted old xs → IsAssumed texts assumed old mid → IsAnsweredUnder decided workers limit (length xs) mid a → new ≡ record old { trees = mid.trees }
-    → IsCheckedUnder decided workers limit texts old a new
-checked_under decided workers limit texts assumed old mid new xs a h k u e =
+pub checked_under : (workers : ℕ) (limit : ℤ) (texts : List (List Token)) (assumed : List Asserted) (old mid new : Stack) (xs : List Assertion) (a : Assumed)
+    → AreAsserted old xs → IsAssumed texts assumed old mid → IsAnsweredUnder workers limit (length xs) mid a → new ≡ record old { trees = mid.trees }
+    → IsCheckedUnder workers limit texts old a new
+checked_under workers limit texts assumed old mid new xs a h k u e =
     let frames : mid.frames ≡ old.frames ++ frame_of assumed ∷ [] = ap (λ (s : Stack). s.frames) k.new_is in
     let trees : mid.trees ≡ k.scope.trees = ap (λ (s : Stack). s.trees) k.new_is in
     let new_trees : new.trees ≡ mid.trees = ap (λ (s : Stack). s.trees) e in
@@ -116,20 +116,9 @@ checked_under decided workers limit texts assumed old mid new xs a h k u e =
       new_is = e ∙ ap (λ ts. record old { trees = ts }) trees;
       assumptions = same;
       within = within;
-      taken = ap decided (sym frames) ∙ u.check.taken;
       refuted = where_unsat a.answer.mode (HasNoModel mid.frames) (IsRefutedUnder new a.assumptions)
           (refuted_again assumed old new mid a.assumptions e mid_is same within u.depth_fits (subst (λ fs. 0 < length fs) (sym new_frames) k.some) u.lawful) u.check.refuted;
       answer = λ s stack above' crew lim.
           u.check.answer s (ap (λ (t : Stack). t.trees) stack ∙ new_trees)
           (ap (λ (t : Stack). t.frames ++ s.above) stack ∙ ap (λ fs. fs ++ s.above) new_frames ∙ ap (λ fs. old.frames ++ fs) above' ∙ sym frames) crew lim;
     }
-
-pub not_taken_under : (decided : List Frame → Bool) (texts : List (List Token)) (assumed : List Asserted) (old mid new : Stack) → IsAssumed texts assumed old mid → decided mid.frames ≡ false → new ≡ old
-    → IsNotTakenUnder decided texts old new
-not_taken_under decided texts assumed old mid new k left e = record {
-  assumed = assumed;
-  scope = k.scope;
-  is_judged = k.is_judged;
-  same = e;
-  left = ap decided (sym (ap (λ (s : Stack). s.frames) k.new_is)) ∙ left;
-}

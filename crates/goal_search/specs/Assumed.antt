@@ -1,5 +1,5 @@
 -- What comes of a check under assumptions.
-use Rattle.std.specs.Prelude.{◌≡◌, ℕ, ℤ, Bool, true, false, List, [], ◌∷◌, ◌++◌, map, All, Option, Some, None, Result, Ok, Err}
+use Rattle.std.specs.Prelude.{◌≡◌, ℕ, ℤ, List, [], ◌∷◌, ◌++◌, map, All, Result, Ok, Err}
 use Rattle.smt_meaning.specs.declared.tokens.Token.{Token}
 use Rattle.smt_meaning.specs.Sorts.{Scope, done}
 use Rattle.smt_meaning.specs.Stack.{Assertion as Asserted, Frame, HasNoModel}
@@ -25,29 +25,19 @@ pub record IsRefutedUnder (s : Stack) (xs : List Assertion) : Type 0 where
   pub none : HasNoModel (s.frames ++ frame_of (map (asserted_by s.trees) xs) ∷ [])
   pub again : MayAssertAbove xs s
 
--- the terms are judged to be assumed, their level is taken, and the check is answered; their trees join the list, and these are the assumptions
-pub record IsCheckedUnder (decided : List Frame → Bool) (workers : ℕ) (limit : ℤ) (texts : List (List Token)) (old : Stack) (a : Assumed) (new : Stack) : Type 0 where
+-- the terms are judged to be assumed, and the check is answered; their trees join the list, and these are the assumptions
+pub record IsCheckedUnder (workers : ℕ) (limit : ℤ) (texts : List (List Token)) (old : Stack) (a : Assumed) (new : Stack) : Type 0 where
   pub assumed : List Asserted
   pub scope : Scope
   pub is_judged : judged (assumption texts) old ≡ done (assumes assumed) scope
   pub new_is : new ≡ changed old (assumes assumed) scope
   pub assumptions : map (asserted_by new.trees) a.assumptions ≡ assumed
   pub within : All (IsWithin new.trees) a.assumptions
-  pub taken : decided (old.frames ++ frame_of assumed ∷ []) ≡ true
   pub answer : IsAnswerTo new (frame_of assumed ∷ []) workers limit a.answer
   pub refuted : WhereUnsat a.answer.mode (IsRefutedUnder new a.assumptions)
 
--- the terms are judged to be assumed, but their level isn't taken
-pub record IsNotTakenUnder (decided : List Frame → Bool) (texts : List (List Token)) (old new : Stack) : Type 0 where
-  pub assumed : List Asserted
-  pub scope : Scope
-  pub is_judged : judged (assumption texts) old ≡ done (assumes assumed) scope
-  pub same : new ≡ old
-  pub left : decided (old.frames ++ frame_of assumed ∷ []) ≡ false
-
--- a check under assumptions is answered, left out or refused, or memory is wanting
-abbrev pub ChecksUnder : (List Frame → Bool) → ℕ → ℤ → List (List Token) → Stack → Result (Option Assumed) StackError → Stack → Type 0
-ChecksUnder decided workers limit texts old (Ok (Some a)) new = IsCheckedUnder decided workers limit texts old a new
-ChecksUnder decided workers limit texts old (Ok None) new = IsNotTakenUnder decided texts old new
-ChecksUnder decided workers limit texts old (Err (Refused r)) new = IsRefused (assumption texts) r old new
-ChecksUnder decided workers limit texts old (Err Memory) new = new ≡ old
+-- a check under assumptions is answered or refused, or memory is wanting
+abbrev pub ChecksUnder : ℕ → ℤ → List (List Token) → Stack → Result Assumed StackError → Stack → Type 0
+ChecksUnder workers limit texts old (Ok a) new = IsCheckedUnder workers limit texts old a new
+ChecksUnder workers limit texts old (Err (Refused r)) new = IsRefused (assumption texts) r old new
+ChecksUnder workers limit texts old (Err Memory) new = new ≡ old

@@ -1,5 +1,5 @@
 -- What comes of a check of a stack.
-use Rattle.std.specs.Prelude.{◌≡◌, ℕ, ℤ, Bool, true, List}
+use Rattle.std.specs.Prelude.{◌≡◌, ℕ, ℤ, List}
 use Rattle.smt_meaning.specs.declared.answers.Mode.{Mode}
 use Rattle.smt_meaning.specs.declared.answers.Mode.TheVariants.{Start, Assert, Sat, Unknown, Unsat}
 use Rattle.smt_meaning.specs.Term.{Tree}
@@ -32,8 +32,7 @@ WhereUnsat (Sat i) P = Unit {0}
 WhereUnsat (Unknown r) P = Unit {0}
 WhereUnsat Unsat P = P
 
--- the stack is taken and its check answered so; in the mode unsat its levels have no model
-pub record IsChecked (decided : List Frame → Bool) (workers : ℕ) (limit : ℤ) (s : Stack) (a : Answer) : Type 0 where
-  pub taken : decided s.frames ≡ true
+-- the stack's check is answered so; in the mode unsat its levels have no model
+pub record IsChecked (workers : ℕ) (limit : ℤ) (s : Stack) (a : Answer) : Type 0 where
   pub answer : IsAnswerOver s.trees s.frames workers limit a
   pub refuted : WhereUnsat a.mode (HasNoModel s.frames)

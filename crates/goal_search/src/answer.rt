@@ -1,5 +1,5 @@
 //! A check of a stack: its reply, what is kept with it, and the mode that it gives (SMT-LIB 2.6, section 4.2.5).
-ghost use Rattle.std.specs.Prelude.{◌≡◌, ◌<◌, false, IfOk, MatchOption};
+ghost use Rattle.std.specs.Prelude.{◌≡◌, ◌<◌, IfOk};
 ghost use Rattle.smt_meaning.specs.Report.{reason_of as the_reason};
 ghost use Rattle.theory_port.specs.declared.decider.Verdict.TheVariants.{Unsat};
 ghost use Rattle.goal_search.specs.Checked.{IsAnswerBy, IsChecked, WhereUnsat};
@@ -61,22 +61,20 @@ fn answer_of(alloc: Global, verdict: Verdict) -> Result<Answer, AllocError>
     }
 }
 
-/// What a check of a stack comes to, which stays as it is. `None` where the decider doesn't take it; an `Err` is for want of memory.
+/// What a check of a stack comes to, which stays as it is. An `Err` is for want of memory.
 pub fn checked<D: Decider>(
     alloc: Global,
     decider: &mut D,
     settings: &Settings,
     stack: &mut ScopeStack,
-) -> Result<Option<Answer>, AllocError>
+) -> Result<Answer, AllocError>
     requires may { D.may decider.old }
     requires workers { 0 < settings.now.workers }
     ensures still { D.may decider.new }
     ensures stays { stack.new ≡ stack.old }
-    ensures checked { IfOk result (λ r. MatchOption r (D.decides stack.old.frames ≡ false) (IsChecked D.decides settings.now.workers settings.now.units stack.old)) }
+    ensures checked { IfOk result (IsChecked settings.now.workers settings.now.units stack.old) }
 {
-    let Some(verdict) = found(alloc, decider, settings, stack)? else {
-        return Ok(None);
-    };
+    let verdict = found(alloc, decider, settings, stack)?;
     let answer = answer_of(alloc, verdict)?;
-    Ok(Some(answer))
+    Ok(answer)
 }

@@ -1,5 +1,5 @@
 //! Checks under assumptions (SMT-LIB 2.6, section 4.2.5).
-ghost use Rattle.std.specs.Prelude.{◌≡◌, ◌<◌, ◌≤◌, length, IfOk, MatchOption, false};
+ghost use Rattle.std.specs.Prelude.{◌≡◌, ◌<◌, ◌≤◌, length, IfOk};
 ghost use Rattle.smt_meaning.specs.Stack.{assertions_of};
 ghost use Rattle.goal_search.specs.Assumed.{ChecksUnder};
 ghost use Rattle.goal_search.specs.Under.{IsAnsweredUnder};
@@ -32,64 +32,54 @@ pub fn copied(alloc: Global, assertions: &[Assertion]) -> Result<Seq<Assertion>,
     Ok(out)
 }
 
-/// What a check comes to of a stack whose assumptions stand above so many assertions. The stack stays as it is. `None` where the decider doesn't take it; an `Err` is for want of memory.
+/// What a check comes to of a stack whose assumptions stand above so many assertions. The stack stays as it is. An `Err` is for want of memory.
 fn answered<D: Decider>(
     alloc: Global,
     decider: &mut D,
     settings: &Settings,
     stack: &mut ScopeStack,
     below: usize,
-) -> Result<Option<Assumed>, AllocError>
+) -> Result<Assumed, AllocError>
     requires may { D.may decider.old }
     requires workers { 0 < settings.now.workers }
     requires below { below ≤ length (assertions_of stack.old.frames) }
     ensures still { D.may decider.new }
     ensures stays { stack.new ≡ stack.old }
-    ensures answered { IfOk result (λ r. MatchOption r (D.decides stack.old.frames ≡ false) (IsAnsweredUnder D.decides settings.now.workers settings.now.units below stack.old)) }
+    ensures answered { IfOk result (IsAnsweredUnder settings.now.workers settings.now.units below stack.old) }
 {
     let _ = stack.depth();
     stack.laws();
-    let Some(answer) = checked(alloc, decider, settings, stack)? else {
-        return Ok(None);
-    };
+    let answer = checked(alloc, decider, settings, stack)?;
     let assumptions = copied(alloc, &stack.assertions()[below..])?;
-    Ok(Some(Assumed {
+    Ok(Assumed {
         answer,
         assumptions,
-    }))
+    })
 }
 
-/// Checks a stack under the assumption of terms, whose level is gone afterwards. The terms join the stack's where the check is decided, and else the stack stays as it is.
-/// `None` where the decider doesn't take it.
+/// Checks a stack under the assumption of terms, whose level is gone afterwards. The terms join the stack's; an `Err` changes nothing.
 pub fn check_under<D: Decider>(
     alloc: Global,
     decider: &mut D,
     settings: &Settings,
     stack: &mut ScopeStack,
     terms: &[SExpr],
-) -> Result<Option<Assumed>, StackError>
+) -> Result<Assumed, StackError>
     requires may { D.may decider.old }
     requires workers { 0 < settings.now.workers }
     ensures still { D.may decider.new }
-    ensures checked { ChecksUnder D.decides settings.now.workers settings.now.units terms.now stack.old result stack.new }
+    ensures checked { ChecksUnder settings.now.workers settings.now.units terms.now stack.old result stack.new }
 {
     let count = stack.terms().len();
     let below = stack.assertions().len();
     stack.assume(alloc, terms)?;
     match answered(alloc, decider, settings, stack, below) {
-        Ok(Some(assumed)) => {
+        Ok(assumed) => {
             stack.withdraw();
-            decider.cut_to(i32::from(stack.depth()));
-            Ok(Some(assumed))
-        }
-        Ok(None) => {
-            stack.take_back(count);
-            decider.cut_to(i32::from(stack.depth()));
-            Ok(None)
+            Ok(assumed)
         }
         Err(AllocError) => {
             stack.take_back(count);
-            decider.cut_to(-1);
             Err(StackError::Memory)
         }
     }

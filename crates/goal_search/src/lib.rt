@@ -5,13 +5,13 @@
 //! verdict; in the mode unsat the levels have no model. The stack is as before.
 //!
 //! `check_under`: the same under a level that asserts terms, which is gone afterwards, or the terms'
-//! refusal. They join the stack's terms where the check is decided, and in the mode unsat the level
-//! may stand there again; else the stack is as before.
+//! refusal. They join the stack's terms, and in the mode unsat the level may stand there again;
+//! where they are refused or memory is wanting, the stack is as before.
 //!
 //! `core`: of the assertions that may go, those that stay where each one that isn't needed is left
-//! out. With them alone there is no model, and each of them has its reason: a model of what is left
-//! without it, or what each worker shows that didn't find one. The stack is as before, also where
-//! memory is wanting.
+//! out. With them and those that may not go there is no model, and each of them has its reason: a
+//! model of what is left without it, or what each worker shows that didn't find one. The stack is as
+//! before, also where memory is wanting.
 //!
 //! `least`: the least value of an Int term in the models of a stack, with a model that has it; that
 //! there is no model; or the best value that was found, with what each worker shows of the next

@@ -40,12 +40,7 @@ pub(crate) fn ask<D: Decider>(
         Err(StackError::Refused(_)) => unreachable!(),
         Err(StackError::Memory) => return Err(AllocError),
     }
-    decider.takes_all();
     let verdict = found(alloc, decider, settings, stack);
     stack.take_back(count);
-    decider.cut_to(-1);
-    match verdict? {
-        Some(verdict) => Ok(verdict),
-        None => unreachable!(),
-    }
+    verdict
 }

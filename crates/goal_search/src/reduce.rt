@@ -27,8 +27,6 @@ fn check<D: Decider>(
     ensures stays { trial.new ≡ trial.old }
     ensures verdict { IfOk result (IsVerdict settings.now.workers trial.old.stack.trees (keeping (marks trial.old.kept) trial.old.stack.frames) settings.now.units) }
 {
-    decider.takes_all();
-    decider.cut_to(-1);
     let whole = mem::replace(trial, Trial::new(alloc));
     match whole.thinned(alloc) {
         Err(whole) => {
@@ -139,7 +137,6 @@ pub fn core<D: Decider>(
         }
         Ok(mut trial) => {
             let held = try_all(alloc, &mut trial, candidates, settings, decider);
-            decider.cut_to(-1);
             *stack = trial.whole();
             held
         }

@@ -1,6 +1,6 @@
 //! What is ahead of a place among the tokens of a term: the form of a `let`, of an annotation and of
 //! a head that divides, and whether a term has a free variable. Each call steps over what it need
-//! not read, so that all calls for one term together take time linear in its tokens.
+//! not read.
 //!
 //! `ends`, `check_let`, `check_annotation`, `has_free_first`: the forms of `let` and `!` before
 //! their terms are read, exactly as they are judged.

@@ -10,18 +10,17 @@ use Rattle.point_closure.specs.declared.step.Step.{Step}
 use Rattle.point_closure.specs.declared.step.Step.TheVariants.{Merge, Differ}
 use Rattle.point_closure.specs.Closure.{Point, point_at, takes_part}
 use Rattle.point_closure.specs.Unions.{root_of, IsUnion, AreUnions}
-use Rattle.point_closure.specs.Explained.{merged, StepsAreMerges}
+use Rattle.point_closure.specs.Explained.{merged, step_at, StepsAreMerges}
 use Rattle.point_closure.specs.declared.pending.Pending.{Pending}
 use Rattle.point_closure.specs.declared.pending.Mark.{Mark}
 use Rattle.point_closure.specs.declared.watch.Watch.{Watch}
-use Rattle.point_closure.specs.declared.watch.Watched.TheVariants.{Truths, Step as AtStep}
 use Rattle.point_closure.specs.declared.lists.Change.{Change}
 use Rattle.point_closure.specs.declared.lists.Change.TheVariants.{Put, Join}
 use Rattle.point_closure.specs.Lists.{list_of}
 use Rattle.point_closure.specs.Signature.{Signature, signature, signature_hash}
 use Rattle.point_closure.specs.Rest.{Begins, UsesAre, WatchesAre, AreMet, PutsBelow, Puts, TakesPart, watch_at}
 use Rattle.point_closure.specs.State.{State, Stands, IsAtRest, AreWatched, Grows, IsFull, Fits, cut, Watches, watched, IsMetAtOnce}
-use Rattle.point_closure.specs.Whole.{AreParts, IsOther, IsLast}
+use Rattle.point_closure.specs.Whole.{AreParts, IsLast}
 use Rattle.point_closure.proofs.RestLemmas.{begins_itself, begins_append}
 use Rattle.point_closure.proofs.StateLemmas.{cut_grows, cut_full, fits_full, marks_cut, marks_grow}
 use Rattle.point_closure.proofs.SoundLemmas.{alike_take, alike_wider}
@@ -47,9 +46,6 @@ rest_back ps ps' log log' s s' m n p l full grows rest =
 pub unions_back : (m : Mark) (s s' : State) → IsFull m s → Grows s s' → take m.unions s'.unions ≡ s.unions
 unions_back m s s' full grows = ap (λ (x : State). x.unions) (back m s s' full grows)
 
-pub pairs_back : (m : Mark) (s s' : State) → IsFull m s → Grows s s' → take m.pairs s'.pairs ≡ s.pairs
-pairs_back m s s' full grows = ap (λ (x : State). x.pairs) (back m s s' full grows)
-
 -- ---- undone to a step
 
 pub parts_cut : (ps : List Point) (log : List Step) (s : State) (ms : List Mark) (d : ℕ) (m : Mark) → d < length ms → get_or ms d m ≡ m → AreParts ps log s ms → AreParts ps (take d log) (cut m s) (take d ms)
@@ -70,8 +66,8 @@ parts_cut ps log s ms d m less is w =
 -- a place of the longer list: one of before, or the last
 watch_of : (ws : List Watch) (w : Watch) (k : ℕ) → k < length (ws ++ w ∷ []) → ((k < length ws) × (watch_at (ws ++ w ∷ []) k ≡ watch_at ws k)) ⊎ ((k ≡ length ws) × (watch_at (ws ++ w ∷ []) k ≡ w))
 watch_of ws w k less = elim (cases_lt k (length ws)) [
-  | inl before ↦ inl (before, get_or_append_left ws (w ∷ []) (record { left = 0; right = 0; watched = Truths }) k before)
-  | inr above ↦ let last : k ≡ length ws = omega (arith, length_push ws w) in inr (last, get_or_push ws w (record { left = 0; right = 0; watched = Truths }) k (sym last))
+  | inl before ↦ inl (before, get_or_append_left ws (w ∷ []) (record { left = 0; right = 0; step = 0 }) k before)
+  | inr above ↦ let last : k ≡ length ws = omega (arith, length_push ws w) in inr (last, get_or_push ws w (record { left = 0; right = 0; step = 0 }) k (sym last))
 ]
 
 watched_lists : (s : State) (w : Watch) → WatchesAre s.pairs s.unions s.watches
@@ -98,7 +94,7 @@ watched_met : (s : State) (w : Watch) (met' : List ℕ) → IsMetAtOnce s w met'
 watched_met s w met' (inl now) old = subst (λ l. AreMet (s.pairs ++ w ∷ []) s.unions l) (sym now.1) (record {
   each = λ k has. elim (Contains-push_cases s.met (length s.pairs) k has) [
     | inl before ↦ old_met s w old k before
-    | inr e ↦ (omega (arith, length_push s.pairs w), subst (λ (v : Watch). root_of s.unions v.left ≡ root_of s.unions v.right) (sym (get_or_push s.pairs w (record { left = 0; right = 0; watched = Truths }) k e)) now.0)
+    | inr e ↦ (omega (arith, length_push s.pairs w), subst (λ (v : Watch). root_of s.unions v.left ≡ root_of s.unions v.right) (sym (get_or_push s.pairs w (record { left = 0; right = 0; step = 0 }) k e)) now.0)
   ];
   all = λ k less e. elim (watch_of s.pairs w k less) [
     | inl h ↦ Contains-append_left s.met (length s.pairs ∷ []) k (old.all k h.0 (subst (λ (v : Watch). root_of s.unions v.left ≡ root_of s.unions v.right) h.1 e))
@@ -111,14 +107,14 @@ watched_met s w met' (inl now) old = subst (λ l. AreMet (s.pairs ++ w ∷ []) s
         let h = old.each k has in
         let less : k < length s.pairs = h.0 in (
           omega (arith, length_push s.pairs w),
-          subst (λ (v : Watch). root_of s.unions v.left ≡ root_of s.unions v.right) (sym (get_or_append_left s.pairs (w ∷ []) (record { left = 0; right = 0; watched = Truths }) k h.0)) h.1,
+          subst (λ (v : Watch). root_of s.unions v.left ≡ root_of s.unions v.right) (sym (get_or_append_left s.pairs (w ∷ []) (record { left = 0; right = 0; step = 0 }) k h.0)) h.1,
         )
 watched_met s w met' (inr later) old = subst (λ l. AreMet (s.pairs ++ w ∷ []) s.unions l) (sym later.1) (record {
   each = λ k has.
       let h = old.each k has in
       let less : k < length s.pairs = h.0 in (
         omega (arith, length_push s.pairs w),
-        subst (λ (v : Watch). root_of s.unions v.left ≡ root_of s.unions v.right) (sym (get_or_append_left s.pairs (w ∷ []) (record { left = 0; right = 0; watched = Truths }) k h.0)) h.1,
+        subst (λ (v : Watch). root_of s.unions v.left ≡ root_of s.unions v.right) (sym (get_or_append_left s.pairs (w ∷ []) (record { left = 0; right = 0; step = 0 }) k h.0)) h.1,
       );
   all = λ k less e. elim (watch_of s.pairs w k less) [
     | inl h ↦ old.all k h.0 (subst (λ (v : Watch). root_of s.unions v.left ≡ root_of s.unions v.right) h.1 e)
@@ -156,56 +152,43 @@ rest_watched ps log log' s w met' met same differs rest = record {
 -- ---- a step that keeps points apart
 
 abbrev watch_with : ℕ → ℕ → ℕ → Watch
-watch_with i j n = record { left = i; right = j; watched = AtStep n }
+watch_with i j n = record { left = i; right = j; step = n }
 
-pub watched_differ : (log : List Step) (i j : ℕ) (ws : List Watch) → AreWatched log ws → AreWatched (log ++ Differ i j ∷ []) (ws ++ record { left = i; right = j; watched = AtStep (length log) } ∷ [])
+-- the pair is that of its step
+abbrev IsWatchedAt : List Step → Watch → Type 0
+IsWatchedAt log w = (w.step < length log) × (step_at log w.step ≡ Differ w.left w.right)
+
+pub watched_differ : (log : List Step) (i j : ℕ) (ws : List Watch) → AreWatched log ws → AreWatched (log ++ Differ i j ∷ []) (ws ++ record { left = i; right = j; step = length log } ∷ [])
 watched_differ log i j ws w =
     let t : Step = Differ i j in
-    let v : Watch = record { left = i; right = j; watched = AtStep (length log) } in
+    let v : Watch = record { left = i; right = j; step = length log } in
     record {
       steps = λ s a b less is. elim (cases_lt s (length log)) [
         | inl before ↦
             let h = w.steps s a b before (sym (get_or_append_left log (t ∷ []) (Differ 0 0) s before) ∙ is) in
             let l : h.0 < length ws = h.1 in
-            (h.0, omega (arith, length_push ws v), get_or_append_left ws (v ∷ []) (record { left = 0; right = 0; watched = Truths }) h.0 h.1 ∙ h.2)
+            (h.0, omega (arith, length_push ws v), get_or_append_left ws (v ∷ []) (record { left = 0; right = 0; step = 0 }) h.0 h.1 ∙ h.2)
         | inr above ↦
             let last : s ≡ length log = omega (arith, length_push log t) in
             let e : Differ i j ≡ Differ a b = sym (get_or_push log t (Differ 0 0) s (sym last)) ∙ is in
-            (length ws, omega (arith, length_push ws v), get_or_push ws v (record { left = 0; right = 0; watched = Truths }) (length ws) refl ∙ same_watch i j a b s e last)
+            (length ws, omega (arith, length_push ws v), get_or_push ws v (record { left = 0; right = 0; step = 0 }) (length ws) refl ∙ same_watch i j a b s e last)
       ];
-      pairs = λ k s less is. elim (watch_of ws v k less) [
+      pairs = λ k less. elim (watch_of ws v k less) [
         | inl h ↦
-            let old = w.pairs k s h.0 (ap (λ (x : Watch). x.watched) (sym h.1) ∙ is) in
-            let l : s < length log = old.0 in
-            (omega (arith, length_push log t), get_or_append_left log (t ∷ []) (Differ 0 0) s old.0 ∙ old.1 ∙ ap (λ (x : Watch). Differ x.left x.right) (sym h.1))
+            let old = w.pairs k h.0 in
+            let l : (watch_at ws k).step < length log = old.0 in
+            subst (IsWatchedAt (log ++ t ∷ [])) (sym h.1) (omega (arith, length_push log t), get_or_append_left log (t ∷ []) (Differ 0 0) (watch_at ws k).step old.0 ∙ old.1)
         | inr h ↦
-            let e : length log ≡ s = step_number (length log) s (ap (λ (x : Watch). x.watched) (sym h.1) ∙ is) in
-            (omega (arith, length_push log t), get_or_push log t (Differ 0 0) s e ∙ ap (λ (x : Watch). Differ x.left x.right) (sym h.1))
+            let l : length log < length (log ++ t ∷ []) = omega (arith, length_push log t) in
+            subst (IsWatchedAt (log ++ t ∷ [])) (sym h.1) (l, get_or_push log t (Differ 0 0) (length log) refl)
       ];
     }
   where
     same_watch : (i j a b s : ℕ) → Differ i j ≡ Differ a b → s ≡ length log → watch_with i j (length log) ≡ watch_with a b s
     same_watch i j a b s e l = cc
 
-    step_number : (m n : ℕ) → AtStep m ≡ AtStep n → m ≡ n
-    step_number m n e = cc
-
 pub merged_differ : (log : List Step) (i j : ℕ) → merged (log ++ Differ i j ∷ []) ≡ merged log
 merged_differ log i j = merged_append log (Differ i j ∷ []) ∙ append-nil (merged log)
-
-pub watched_other : (log : List Step) (ws : List Watch) (v : Watch) → IsOther v.watched → AreWatched log ws → AreWatched log (ws ++ v ∷ [])
-watched_other log ws v other w = record {
-  steps = λ s a b less is.
-      let h = w.steps s a b less is in
-      let l : h.0 < length ws = h.1 in
-      (h.0, omega (arith, length_push ws v), get_or_append_left ws (v ∷ []) (record { left = 0; right = 0; watched = Truths }) h.0 h.1 ∙ h.2);
-  pairs = λ k s less is. elim (watch_of ws v k less) [
-    | inl h ↦
-        let old = w.pairs k s h.0 (ap (λ (x : Watch). x.watched) (sym h.1) ∙ is) in
-        (old.0, old.1 ∙ ap (λ (x : Watch). Differ x.left x.right) (sym h.1))
-    | inr h ↦ absurd (other s (ap (λ (x : Watch). x.watched) (sym h.1) ∙ is))
-  ];
-}
 
 -- ---- one more point
 
@@ -340,23 +323,16 @@ merge_stands ps ps' log log' s s' xs p index e l q x last rest =
     (subst (λ y. Stands ps y s (p ∷ []) [] 0) (before_last log index (Merge p.left p.right) last) (stands_merge ps (take index log) s [] p rest)))))
 
 pub differ_rest : (ps ps' : List Point) (log log' : List Step) (s s' : State) (i j index : ℕ) → ps' ≡ ps → log' ≡ log → IsLast log index (Differ i j) → IsAtRest ps (take index log) s
-    → Watches s s' (record { left = i; right = j; watched = AtStep index }) → IsAtRest ps' log' s'
+    → Watches s s' (record { left = i; right = j; step = index }) → IsAtRest ps' log' s'
 differ_rest ps ps' log log' s s' i j index e l last rest watches =
-    let w : Watch = record { left = i; right = j; watched = AtStep index } in
+    let w : Watch = record { left = i; right = j; step = index } in
     let front : List Step = take index log in
     let size : length front ≡ index = index_is log index (Differ i j) last in
     subst (λ qs. IsAtRest qs log' s') (sym e)
     (subst (λ y. IsAtRest ps y s') (before_last log index (Differ i j) last ∙ sym l)
     (subst (λ (y : State). IsAtRest ps (front ++ Differ i j ∷ []) y) (sym watches.state)
     (rest_watched ps front (front ++ Differ i j ∷ []) s w s'.met watches.met (merged_differ front i j)
-    (subst (λ n. AreWatched (front ++ Differ i j ∷ []) (s.pairs ++ record { left = i; right = j; watched = AtStep n } ∷ [])) size (watched_differ front i j s.pairs rest.differs)) rest)))
-
-pub watch_rest : (ps ps' : List Point) (log log' : List Step) (s s' : State) (w : Watch) → ps' ≡ ps → log' ≡ log → IsOther w.watched → IsAtRest ps log s → Watches s s' w → IsAtRest ps' log' s'
-watch_rest ps ps' log log' s s' w e l other rest watches =
-    subst (λ qs. IsAtRest qs log' s') (sym e)
-    (subst (λ y. IsAtRest ps y s') (sym l)
-    (subst (λ (y : State). IsAtRest ps log y) (sym watches.state)
-    (rest_watched ps log log s w s'.met watches.met refl (watched_other log s.pairs w other rest.differs) rest)))
+    (subst (λ n. AreWatched (front ++ Differ i j ∷ []) (s.pairs ++ record { left = i; right = j; step = n } ∷ [])) size (watched_differ front i j s.pairs rest.differs)) rest)))
 
 -- ---- a watched pair, perhaps not yet in all lists
 

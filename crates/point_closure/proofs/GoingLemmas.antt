@@ -219,8 +219,8 @@ watched_merge log i j ws w = record {
     | inl before ↦ w.steps s a b before (sym (get_or_append_left log (Merge i j ∷ []) (Differ 0 0) s before) ∙ is)
     | inr above ↦ absurd (no_differ (sym (get_or_push log (Merge i j) (Differ 0 0) s (omega (arith, length_push log (Merge i j)))) ∙ is))
   ];
-  pairs = λ k s less is. let h = w.pairs k s less is in let l : s < length log = h.0 in
-      (omega (arith, length_push log (Merge i j)), get_or_append_left log (Merge i j ∷ []) (Differ 0 0) s h.0 ∙ h.1);
+  pairs = λ k less. let h = w.pairs k less in let l : (watch_at ws k).step < length log = h.0 in
+      (omega (arith, length_push log (Merge i j)), get_or_append_left log (Merge i j ∷ []) (Differ 0 0) (watch_at ws k).step h.0 ∙ h.1);
 }
   where
     no_differ : {a b : ℕ} → Merge i j ≡ Differ a b → ⊥

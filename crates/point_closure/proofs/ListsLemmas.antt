@@ -1,6 +1,6 @@
 -- Lists of classes after one more change, and as they are kept.
 use Rattle.std.proofs.Common.{◌≡◌, ◌≢◌, ℕ, zero, suc, ◌-◌, ◌<◌, ◌≤◌, Bool, true, false, nat_eq, List, [], ◌∷◌, ◌++◌, length, take, get_or, set, All, refl, sym, ap, ◌∙◌, subst, inl, inr, arith}
-use Rattle.std.specs.Prelude.{if◌then◌else◌, Vec, Result, Ok, Err, is_ok, OnOk, OnErr, Option, Some, None, IfSome, IfNone}
+use Rattle.std.specs.Prelude.{if◌then◌else◌, Vec, Result, Ok, Err, is_ok, OnOk, OnErr}
 use Rattle.std.proofs.lemmas.Bool.{cases_eq, eq-eqb}
 use Rattle.std.proofs.lemmas.Bool.Decides.{eqb_tells}
 use Rattle.std.proofs.lemmas.List.{get_or_append_left, length_push, length-append, length-set, take_at}
@@ -169,11 +169,3 @@ err_when (Err e) P f = f refl
 pub ok_then : {X E : Type 0} (r : Result X E) (P Q : Type 0) → OnOk r P → (P → Q) → OnOk r Q
 ok_then (Ok x) P Q h f = f h
 ok_then (Err e) P Q h f = tt
-
-pub some_then : {X : Type 0} (r : Option X) (P Q R : X → Type 0) → IfSome r P → IfSome r Q → ((x : X) → P x → Q x → R x) → IfSome r R
-some_then None P Q R p q f = tt
-some_then (Some x) P Q R p q f = f x p q
-
-pub none_then : {X : Type 0} (r : Option X) (P Q : Type 0) → IfNone r P → (P → Q) → IfNone r Q
-none_then None P Q p f = f p
-none_then (Some x) P Q p f = tt

@@ -5,8 +5,6 @@ use Rattle.point_closure.specs.Closure.{Point, point_at, takes_part}
 use Rattle.point_closure.specs.Unions.{root_of}
 use Rattle.point_closure.specs.declared.pending.Pending.{Pending}
 use Rattle.point_closure.specs.declared.watch.Watch.{Watch}
-use Rattle.point_closure.specs.declared.watch.Watched.{Watched}
-use Rattle.point_closure.specs.declared.watch.Watched.TheVariants.{Truths, Step, Equality}
 use Rattle.point_closure.specs.declared.lists.Change.{Change}
 use Rattle.point_closure.specs.declared.lists.Change.TheVariants.{Put, Join}
 use Rattle.point_closure.specs.Lists.{list_of}
@@ -86,7 +84,7 @@ abbrev pub UsesAre : List Point → List Union → List Change → Type 0
 UsesAre ps us cs = (i a : ℕ) → i < length ps → a < length (point_at ps i).arguments → Contains (list_of cs (root_of us (slice_index (point_at ps i).arguments a))) i
 
 abbrev pub watch_at : List Watch → ℕ → Watch
-watch_at ws k = slice_index_or ws k (record { left = 0; right = 0; watched = Truths })
+watch_at ws k = slice_index_or ws k (record { left = 0; right = 0; step = 0 })
 
 -- each watched pair stands in the lists of its points' classes
 abbrev pub WatchesAre : List Watch → List Union → List Change → Type 0
@@ -127,9 +125,3 @@ pub record IsWatching (us : List Union) (w : Watch) (ws ws' : List Watch) (cs cs
   pub pairs : ws' ≡ ws ++ w ∷ []
   pub lists : cs' ≡ (cs ++ Put (root_of us w.left) (length ws) ∷ []) ++ Put (root_of us w.right) (length ws) ∷ []
   pub at_once : ((root_of us w.left ≡ root_of us w.right) × (met' ≡ met ++ length ws ∷ [])) ⊎ ((root_of us w.left ≢ root_of us w.right) × (met' ≡ met))
-
--- the points of such a pair must not become equal
-abbrev pub must_differ : Watched → Bool
-must_differ Truths = true
-must_differ (Step s) = true
-must_differ (Equality n) = false

@@ -8,7 +8,6 @@ use Rattle.point_closure.specs.Explained.{merged, step_at, StepsAreMerges}
 use Rattle.point_closure.specs.declared.pending.Pending.{Pending}
 use Rattle.point_closure.specs.declared.pending.Mark.{Mark}
 use Rattle.point_closure.specs.declared.watch.Watch.{Watch}
-use Rattle.point_closure.specs.declared.watch.Watched.TheVariants.{Step as AtStep}
 use Rattle.point_closure.specs.declared.lists.Change.{Change}
 use Rattle.point_closure.specs.declared.lists.Change.TheVariants.{Put}
 use Rattle.point_closure.specs.Unions.{root_of}
@@ -27,10 +26,10 @@ pub record State : Type 0 where
 abbrev pub filed_of : State → Filed
 filed_of s = record { hashes = s.hashes; points = s.points }
 
--- each step that keeps points apart has its watched pair, and each such pair its step
+-- each step that keeps points apart has its watched pair, and each watched pair its step
 pub record AreWatched (log : List Step) (ws : List Watch) : Type 0 where
-  pub steps : (s i j : ℕ) → s < length log → step_at log s ≡ Differ i j → (k : ℕ) × (k < length ws) × (watch_at ws k ≡ record { left = i; right = j; watched = AtStep s })
-  pub pairs : (k s : ℕ) → k < length ws → (watch_at ws k).watched ≡ AtStep s → (s < length log) × (step_at log s ≡ Differ (watch_at ws k).left (watch_at ws k).right)
+  pub steps : (s i j : ℕ) → s < length log → step_at log s ≡ Differ i j → (k : ℕ) × (k < length ws) × (watch_at ws k ≡ record { left = i; right = j; step = s })
+  pub pairs : (k : ℕ) → k < length ws → ((watch_at ws k).step < length log) × (step_at log (watch_at ws k).step ≡ Differ (watch_at ws k).left (watch_at ws k).right)
 
 -- what holds while pairs are pending and points of this list wait from this place on
 pub record Stands (ps : List Point) (log : List Step) (s : State) (pending : List Pending) (list : List ℕ) (from : ℕ) : Type 0 where

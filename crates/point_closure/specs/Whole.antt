@@ -1,5 +1,5 @@
 -- What holds of a closure.
-use Rattle.std.specs.Prelude.{◌≡◌, ◌≢◌, ℕ, ◌+◌, ◌<◌, ◌≤◌, ◌⊎◌, List, All, length, [], ◌∷◌, ◌++◌, Contains, IsTrue, ◌↔◌}
+use Rattle.std.specs.Prelude.{◌≡◌, ℕ, ◌+◌, ◌<◌, ◌≤◌, ◌⊎◌, List, All, length, [], ◌∷◌, ◌++◌, Contains, ◌↔◌}
 use Rattle.point_closure.specs.declared.step.Step.{Step}
 use Rattle.point_closure.specs.declared.step.Step.TheVariants.{Merge, Differ}
 use Rattle.point_closure.specs.Closure.{Point, Equal}
@@ -8,10 +8,8 @@ use Rattle.point_closure.specs.Explained.{AlikeAreCongruent, StepsAreMerges, mer
 use Rattle.point_closure.specs.declared.closure.Closure.{Closure}
 use Rattle.point_closure.specs.declared.pending.Mark.{Mark}
 use Rattle.point_closure.specs.declared.watch.Watch.{Watch}
-use Rattle.point_closure.specs.declared.watch.Watched.{Watched}
-use Rattle.point_closure.specs.declared.watch.Watched.TheVariants.{Step as AtStep}
 use Rattle.point_closure.specs.Sound.{IsPending}
-use Rattle.point_closure.specs.Rest.{PutsBelow, TakesPart, watch_at, must_differ}
+use Rattle.point_closure.specs.Rest.{PutsBelow, TakesPart, watch_at}
 use Rattle.point_closure.specs.State.{State, IsAtRest, AreMarks, Grows}
 
 abbrev pub state_of : Closure → State
@@ -75,24 +73,10 @@ abbrev pub IsWithin : ℕ → Step → Type 0
 IsWithin n (Merge i j) = (i < n) × (j < n)
 IsWithin n (Differ i j) = (i < n) × (j < n)
 
--- it isn't watched for a step
-abbrev pub IsOther : Watched → Type 0
-IsOther w = (s : ℕ) → w ≢ AtStep s
-
 -- these are the numbers of the watched pairs whose points are equal
 abbrev pub AreEqualPairs : List Point → List Step → List Watch → List ℕ → Type 0
 AreEqualPairs ps log ws met = (k : ℕ) → Contains met k ↔ ((k < length ws) × Equal ps (merged log) (watch_at ws k).left (watch_at ws k).right)
 
--- no watched pair that must differ is of equal points
-abbrev pub ArePairsApart : List Point → List Step → List Watch → Type 0
-ArePairsApart ps log ws = (k : ℕ) → k < length ws → IsTrue (must_differ (watch_at ws k).watched) → Equal ps (merged log) (watch_at ws k).left (watch_at ws k).right → ⊥
-
 -- no step keeps equal points apart
 abbrev pub AreStepsApart : List Point → List Step → Type 0
 AreStepsApart ps log = (s i j : ℕ) → s < length log → step_at log s ≡ Differ i j → Equal ps (merged log) i j → ⊥
-
--- the points of the watched pair of this number are equal, and must differ
-pub record IsClash (ps : List Point) (log : List Step) (ws : List Watch) (k : ℕ) : Type 0 where
-  pub within : k < length ws
-  pub differ : IsTrue (must_differ (watch_at ws k).watched)
-  pub equal : Equal ps (merged log) (watch_at ws k).left (watch_at ws k).right

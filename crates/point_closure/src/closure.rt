@@ -16,9 +16,8 @@
 //! filed stays where it is when a signature changes: a search looks at every point of its hash and
 //! compares signatures as they now are.
 //!
-//! Pairs may be watched. A watched pair is listed with the classes of its two points, and is met by
-//! the union that brings them together. The pairs that must differ are watched so; the first of
-//! them that is met is a clash.
+//! A step that keeps two points apart has them watched: the pair is listed with the classes of its
+//! two points, and is met by the union that brings them together.
 //!
 //! Undoing. All of this grows at its end: unions, filed points, changes of lists, watched pairs,
 //! met ones. A mark is the length of each; a step keeps the mark from before it, and `reset` cuts
@@ -31,9 +30,9 @@
 //! nothing is pending the classes respect all merges and all applications, so they are the closure.
 //! A run of `close` ends, since each union leaves a class fewer.
 //!
-//! What a caller may rely on is said by `record`, `add`, `watch` and `undo_to`, and by `same`,
-//! `met`, `clash` and `explain`. Points are added before the first step only, and stay.
-ghost use Rattle.std.specs.Prelude.{◌≡◌, ◌≢◌, ◌⊎◌, ◌+◌, ◌-◌, ◌<◌, ◌≤◌, ℕ, [], ◌∷◌, ◌++◌, length, take, slice_index_or, All, OnOk, OnErr, IfOk, IfSome, IfNone, IsTrue, ◌↔◌, ◌^◌, Contains};
+//! What a caller may rely on is said by `record`, `add` and `undo_to`, and by `same`, `met` and
+//! `explain`. Points are added before the first step only, and stay.
+ghost use Rattle.std.specs.Prelude.{◌≡◌, ◌+◌, ◌-◌, ◌<◌, ◌≤◌, [], ◌∷◌, ◌++◌, length, take, All, OnOk, OnErr, IsTrue, ◌↔◌, ◌^◌};
 
 use crate::file::refile;
 use crate::join::{join_all, take_back};
@@ -42,7 +41,7 @@ use crate::meet::watch_pair;
 use crate::pending::{Mark, Pending};
 use crate::points::add_point;
 use crate::table::Table;
-use crate::watch::{Watch, Watched, first_clash};
+use crate::watch::Watch;
 use crate::{Classes, Explainer, Graph, Reason, Shape, Step, Union, classes_are_the_closure};
 use std::alloc::{AllocError, Global};
 
@@ -57,6 +56,7 @@ pub struct Closure {
     uses: Lists,
     /// For each class the watched pairs with a point in it.
     watches: Lists,
+    /// The pairs of the steps that keep points apart.
     pub pairs: Vec<Watch>,
     table: Table,
     pending: Vec<Pending>,
@@ -67,21 +67,18 @@ pub struct Closure {
 }
 
 impl Closure {
-    ghost use Rattle.point_closure.specs.Closure.{Equal};
-    ghost use Rattle.point_closure.specs.Unions.{IsUnion, root_of};
-    ghost use Rattle.point_closure.specs.Explained.{Explains, merged};
+    ghost use Rattle.point_closure.specs.Unions.{IsUnion};
     ghost use Rattle.point_closure.specs.Lists.{list_of};
     ghost use Rattle.point_closure.specs.Sound.{IsJustified, IsPending};
-    ghost use Rattle.point_closure.specs.Rest.{Begins, watch_at};
-    ghost use Rattle.point_closure.specs.State.{Stands, IsAtRest, Grows};
-    ghost use Rattle.point_closure.specs.Whole.{IsClosure, IsWhole, Keeps, IsLast, IsWithin, AreEqualPairs, IsUnited, state_of};
+    ghost use Rattle.point_closure.specs.Rest.{Begins};
+    ghost use Rattle.point_closure.specs.State.{Stands, IsAtRest};
+    ghost use Rattle.point_closure.specs.Whole.{IsClosure, IsWhole, Keeps, IsUnited, state_of};
 
     /// No point, no step. It takes no memory.
     pub fn new(alloc: Global) -> Self
         ensures whole { IsWhole result }
         ensures points { result.graph ≡ [] }
         ensures steps { result.steps.items ≡ [] }
-        ensures pairs { result.pairs.items ≡ [] }
     {
         Closure {
             graph: Graph::new(alloc),
@@ -107,7 +104,6 @@ impl Closure {
         requires stands { Stands self.old.graph self.old.steps.items (state_of self.old) self.old.pending.items (list_of self.old.uses.changes gone) 0 }
         ensures whole { IsClosure self.new }
         ensures keeps { Keeps self.old self.new }
-        ensures pairs { self.new.pairs.items ≡ self.old.pairs.items }
         ensures pending { Begins self.old.pending.items self.new.pending.items }
         ensures classes { self.new.classes ≡ self.old.classes }
         ensures stands { OnOk result (Stands self.new.graph self.new.steps.items (state_of self.new) self.new.pending.items [] 0) }
@@ -129,7 +125,6 @@ impl Closure {
         requires justified { IsJustified self.old.graph self.old.classes.unions self.old.steps.items union }
         ensures whole { IsClosure self.new }
         ensures keeps { Keeps self.old self.new }
-        ensures pairs { self.new.pairs.items ≡ self.old.pairs.items }
         ensures pending { Begins self.old.pending.items self.new.pending.items }
         ensures unions { OnOk result (self.new.classes.unions ≡ self.old.classes.unions ++ union ∷ []) }
         ensures stands { OnOk result (Stands self.new.graph self.new.steps.items (state_of self.new) self.new.pending.items [] 0) }
@@ -153,7 +148,6 @@ impl Closure {
         requires pending { IsPending self.old.graph self.old.classes.unions self.old.steps.items next }
         ensures whole { IsClosure self.new }
         ensures keeps { Keeps self.old self.new }
-        ensures pairs { self.new.pairs.items ≡ self.old.pairs.items }
         ensures pending { Begins self.old.pending.items self.new.pending.items }
         ensures united { OnOk result (IsUnited self.old self.new next.left next.right) }
         ensures stands { OnOk result (Stands self.new.graph self.new.steps.items (state_of self.new) self.new.pending.items [] 0) }
@@ -188,7 +182,6 @@ impl Closure {
         requires stands { Stands self.old.graph self.old.steps.items (state_of self.old) self.old.pending.items [] 0 }
         ensures whole { IsClosure self.new }
         ensures keeps { Keeps self.old self.new }
-        ensures pairs { self.new.pairs.items ≡ self.old.pairs.items }
         ensures rest { OnOk result (IsAtRest self.new.graph self.new.steps.items (state_of self.new)) }
     {
         let mut head = 0;
@@ -204,8 +197,7 @@ impl Closure {
 
 impl Closure {
     ghost use Rattle.point_closure.specs.Unions.{AreUnions};
-    ghost use Rattle.point_closure.specs.Sound.{IsPending};
-    ghost use Rattle.point_closure.specs.State.{Stands, IsAtRest, Grows, IsFull, Fits, cut};
+    ghost use Rattle.point_closure.specs.State.{Stands, IsAtRest, Grows, IsFull, cut};
     ghost use Rattle.point_closure.specs.Whole.{IsSized, AreParts, IsClosure, IsWhole, Keeps, state_of};
 
     // ---- back to a mark
@@ -235,7 +227,6 @@ impl Closure {
         ensures graph { self.new.graph ≡ take count self.old.graph }
         ensures steps { self.new.steps.items ≡ self.old.steps.items }
         ensures marks { self.new.marks.items ≡ self.old.marks.items }
-        ensures pairs { self.new.pairs.items ≡ take mark.pairs self.old.pairs.items }
     {
         self.pending.clear();
         take_back(
@@ -263,7 +254,6 @@ impl Closure {
         ensures closure { IsClosure self.new }
         ensures steps { self.new.steps.items ≡ self.old.steps.items }
         ensures marks { self.new.marks.items ≡ self.old.marks.items }
-        ensures pairs { self.new.pairs.items ≡ self.old.pairs.items }
         ensures grows { Grows (state_of self.old) (state_of self.new) }
         ensures ok { OnOk result (self.new.graph ≡ self.old.graph ++ record { shape = shape; arguments = arguments.now } ∷ []) }
         ensures stands { OnOk result (Stands self.new.graph self.new.steps.items (state_of self.new) self.new.pending.items (length self.old.graph ∷ []) 0) }
@@ -289,7 +279,6 @@ impl Closure {
         requires stands { Stands self.old.graph self.old.steps.items (state_of self.old) self.old.pending.items points.now 0 }
         ensures whole { IsClosure self.new }
         ensures keeps { Keeps self.old self.new }
-        ensures pairs { self.new.pairs.items ≡ self.old.pairs.items }
         ensures stands { OnOk result (Stands self.new.graph self.new.steps.items (state_of self.new) self.new.pending.items [] 0) }
     {
         refile(
@@ -308,7 +297,6 @@ impl Closure {
         requires stands { Stands self.old.graph self.old.steps.items (state_of self.old) self.old.pending.items (point ∷ []) 0 }
         ensures whole { IsClosure self.new }
         ensures keeps { Keeps self.old self.new }
-        ensures pairs { self.new.pairs.items ≡ self.old.pairs.items }
         ensures rest { OnOk result (IsAtRest self.new.graph self.new.steps.items (state_of self.new)) }
     {
         self.file(&[point])?;
@@ -322,7 +310,6 @@ impl Closure {
         requires earlier { All (λ i. i < length self.old.graph) arguments.now }
         ensures whole { IsWhole self.new }
         ensures steps { self.new.steps.items ≡ [] }
-        ensures pairs { self.new.pairs.items ≡ self.old.pairs.items }
         ensures ok { OnOk result (self.new.graph ≡ self.old.graph ++ record { shape = shape; arguments = arguments.now } ∷ []) }
         ensures err { OnErr result (self.new.graph ≡ self.old.graph) }
     {
@@ -342,16 +329,13 @@ impl Closure {
 }
 
 impl Closure {
-    ghost use Rattle.point_closure.specs.Closure.{Equal};
-    ghost use Rattle.point_closure.specs.Unions.{root_of};
-    ghost use Rattle.point_closure.specs.Explained.{Explains, merged};
     ghost use Rattle.point_closure.specs.Sound.{IsPending};
-    ghost use Rattle.point_closure.specs.State.{IsAtRest, Watches};
-    ghost use Rattle.point_closure.specs.Whole.{IsClosure, IsWhole, Keeps, IsLast, IsWithin, IsOther, AreEqualPairs, state_of};
+    ghost use Rattle.point_closure.specs.State.{Watches};
+    ghost use Rattle.point_closure.specs.Whole.{IsClosure, IsWhole, Keeps, state_of};
 
     // ---- watched pairs
 
-    /// Watches a pair.
+    /// Watches the pair of a step.
     fn add_watch(&mut self, watch: Watch) -> Result<(), AllocError>
         requires whole { IsClosure self.old }
         requires left { watch.left < length self.old.graph }
@@ -367,28 +351,6 @@ impl Closure {
             &mut self.met,
             watch,
         )
-    }
-
-    /// Watches a pair until the steps of now are taken back. An `Err` changes nothing.
-    pub fn watch(&mut self, watch: Watch) -> Result<(), AllocError>
-        requires whole { IsWhole self.old }
-        requires left { watch.left < length self.old.graph }
-        requires right { watch.right < length self.old.graph }
-        requires other { IsOther watch.watched }
-        ensures whole { IsWhole self.new }
-        ensures graph { self.new.graph ≡ self.old.graph }
-        ensures steps { self.new.steps.items ≡ self.old.steps.items }
-        ensures ok { OnOk result (self.new.pairs.items ≡ self.old.pairs.items ++ watch ∷ []) }
-        ensures err { OnErr result (self.new.pairs.items ≡ self.old.pairs.items) }
-    {
-        let mark = self.mark();
-        let count = self.graph.len();
-        let _each = self.classes.unions();
-        if self.add_watch(watch).is_err() {
-            self.reset(mark, count);
-            return Err(AllocError);
-        }
-        Ok(())
     }
 
     // ---- steps
@@ -426,10 +388,9 @@ impl Closure {
 impl Closure {
     ghost use Rattle.point_closure.specs.Closure.{Equal};
     ghost use Rattle.point_closure.specs.Unions.{root_of};
-    ghost use Rattle.point_closure.specs.Rest.{watch_at};
     ghost use Rattle.point_closure.specs.Explained.{Explains, merged};
     ghost use Rattle.point_closure.specs.State.{IsAtRest};
-    ghost use Rattle.point_closure.specs.Whole.{IsClosure, IsWhole, Keeps, IsLast, IsWithin, AreEqualPairs, ArePairsApart, AreStepsApart, IsClash, state_of};
+    ghost use Rattle.point_closure.specs.Whole.{IsClosure, IsWhole, Keeps, IsLast, IsWithin, AreEqualPairs, state_of};
 
     /// Does what the last step says.
     fn apply(&mut self, step: Step, index: u32) -> Result<(), AllocError>
@@ -453,7 +414,7 @@ impl Closure {
             Step::Differ(left, right) => self.add_watch(Watch {
                 left,
                 right,
-                watched: Watched::Step(index),
+                step: index,
             }),
         }
     }
@@ -495,7 +456,7 @@ impl Closure {
         Ok(())
     }
 
-    /// Takes back all steps but the first, with all pairs that were watched after them.
+    /// Takes back all steps but the first.
     pub fn undo_to(&mut self, depth: usize)
         requires whole { IsWhole self.old }
         ensures whole { IsWhole self.new }
@@ -514,13 +475,6 @@ impl Closure {
         ensures { result ≡ length self.now.graph }
     {
         self.graph.len()
-    }
-
-    /// The number of steps.
-    pub fn depth(&self) -> usize
-        ensures { result ≡ length self.now.steps.items }
-    {
-        self.steps.len()
     }
 
     /// Whether the merges make two points equal.
@@ -572,24 +526,6 @@ impl Closure {
         let _each = self.classes.unions();
         classes_are_the_closure();
         self.met.as_slice()
-    }
-
-    /// The first watched pair whose points are equal and must differ: the truth values, or the points of a step that keeps them apart.
-    pub fn clash(&self) -> Option<u32>
-        requires whole { IsWhole self.now }
-        ensures some { IfSome result (λ k. IsClash self.now.graph self.now.steps.items self.now.pairs.items k) }
-        ensures pairs { IfNone result (ArePairsApart self.now.graph self.now.steps.items self.now.pairs.items) }
-        ensures steps { IfNone result (AreStepsApart self.now.graph self.now.steps.items) }
-    {
-        first_clash(&self.pairs, self.met())
-    }
-
-    /// A watched pair.
-    pub fn pair_at(&self, pair: u32) -> Watch
-        requires { pair < length self.now.pairs.items }
-        ensures { result ≡ watch_at self.now.pairs.items pair }
-    {
-        self.pairs[pair as usize]
     }
 }
 

@@ -1,13 +1,12 @@
 //! Congruence closure of points, with undo (Nelson and Oppen, JACM 1980; Downey, Sethi and Tarjan,
 //! JACM 1980).
 //!
-//! `Closure::record`, `add`, `watch`, `undo_to`: a step is recorded, or after want of memory all is
-//! as before: the points, the steps, and what is equal. An undo leaves exactly the first steps.
+//! `Closure::record`, `add`, `undo_to`: a step is recorded, or after want of memory all is as before:
+//! the points, the steps, and what is equal. An undo leaves exactly the first steps.
 //!
-//! `Closure::same`, `met`, `clash`, `explain`: `same` is true exactly where the closure of the
-//! merged pairs makes the points equal; `met` has exactly the watched pairs of equal points;
-//! without a `clash` no pair that must differ and no step's points are equal; merges that give an
-//! equality.
+//! `Closure::same`, `met`, `explain`: `same` is true exactly where the closure of the merged pairs
+//! makes the points equal; `met` has exactly the watched pairs of equal points, one pair for each
+//! step that keeps points apart; merges that give an equality.
 //!
 //! Terms as points in classes, and why points are equal (Nelson and Oppen, JACM 1980; Nieuwenhuis
 //! and Oliveras, 2007).
@@ -46,7 +45,7 @@ pub use explain::Explainer;
 pub use graph::Graph;
 pub use shape::Shape;
 pub use step::Step;
-pub use watch::{Watch, Watched};
+pub use watch::Watch;
 
 /// An interpretation that makes the merged pairs true gives equal points one value.
 pub fn equal_points_have_one_value()

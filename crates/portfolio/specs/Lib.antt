@@ -1,4 +1,3 @@
 pub mod Ends
-pub mod Taken
 pub mod Jobs
 pub mod Tallies

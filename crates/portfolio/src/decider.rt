@@ -16,16 +16,9 @@ impl<F: Fn(&Stack, &Settings) -> Result<Verdict, AllocError>> Decider for By<F> 
     ghost use Rattle.std.specs.declared.alloc.AllocError.{AllocError as AllocErrorValue};
     ghost use Rattle.theory_port.specs.declared.decider.Verdict.{Verdict as VerdictValue};
     ghost use Rattle.theory_port.specs.Verdicts.{IsVerdict};
-    ghost use Rattle.portfolio.specs.Taken.{every_stack};
-
-    ghost decides = { every_stack };
 
     ghost may = { λ b. (s : Bor _) (t : Bor _) → 0 < t.now.workers
         → F.pre b.f s t × ((r : Result VerdictValue AllocErrorValue) → F.Fn.post b.f (s, (t, tt)) r → IfOk r (IsVerdict t.now.workers s.now.trees s.now.frames t.now.units)) };
-
-    fn takes(&self, _alloc: Global, _stack: &Stack) -> Result<bool, AllocError> {
-        Ok(true)
-    }
 
     fn decide(
         &mut self,
@@ -35,8 +28,4 @@ impl<F: Fn(&Stack, &Settings) -> Result<Verdict, AllocError>> Decider for By<F> 
     ) -> Result<Verdict, AllocError> {
         (self.f)(stack, settings)
     }
-
-    fn takes_all(&self) {}
-
-    fn cut_to(&mut self, _level: i32) {}
 }

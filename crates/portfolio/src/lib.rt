@@ -4,8 +4,8 @@
 //! takes its first turn, numbers the atoms of the stack, forms its first clauses and searches by the
 //! theory of equality and whole numbers.
 //!
-//! The first that has an answer wins: `sat` with tables that make every assertion true, with each
-//! number in the range, `unsat` where the empty clause follows.
+//! An answer is `sat` with tables that make every assertion true, with each number in the range, or
+//! `unsat` where the empty clause follows.
 //!
 //! Else comes a report of each worker, in their order: where folding left the range while the atoms
 //! were numbered, or the row of a first atom did, what the search shows where it ended, or that
@@ -14,8 +14,8 @@
 //! Without a limit of units and without an Int it is want of memory alone. Without a limit, where
 //! each Int leaf has a box and the atoms are fewer than 2^40, no worker shows spent units.
 //!
-//! No worker is stopped by another one where there is no answer. Nothing races where nothing is
-//! declared or asserted.
+//! What it does, beside its clauses: the first that has an answer wins, no worker is stopped by
+//! another one where there is no answer, and nothing races where nothing is declared or asserted.
 //!
 //! `By`: the decider whose checks a closure makes, since only that can know of threads and the gate.
 #![tactic(auto)]

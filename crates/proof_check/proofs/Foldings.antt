@@ -16,7 +16,7 @@ use Rattle.smt_reader.proofs.Skipping.{skips_none}
 use Rattle.session.specs.LastCheck.{is_after_check}
 use Rattle.proof_check.specs.declared.intake.Halt.{Halt}
 use Rattle.proof_check.specs.declared.intake.Intake.{Intake}
-use Rattle.proof_check.specs.Taken.{every_stack}
+use Rattle.session.specs.Taken.{every_stack}
 use Rattle.proof_check.specs.Folds.{settings, get_proof, no_command, next_command, unasked, exits, unchecked, unproved, IsOpen, before_question, before_proof}
 use Rattle.proof_check.specs.Checked.{without, judged}
 use Rattle.proof_check.specs.Progress.{folded, past, Reached, IsOpenAt, SoFar, IsNext, IsAsked, Comes}

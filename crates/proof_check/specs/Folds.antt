@@ -11,7 +11,7 @@ use Rattle.smt_meaning.specs.State.{State, start}
 use Rattle.smt_meaning.specs.MayReply.{Replies}
 use Rattle.smt_meaning.specs.LegalJournal.{IsExit}
 use Rattle.session.specs.LastCheck.{is_after_check}
-use Rattle.proof_check.specs.Taken.{every_stack}
+use Rattle.session.specs.Taken.{every_stack}
 
 -- those of no words, but for one worker
 abbrev pub settings : Settings

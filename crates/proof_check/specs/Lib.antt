@@ -1,4 +1,3 @@
-pub mod Taken
 pub mod Folds
 pub mod Lines
 pub mod Checked

@@ -10,7 +10,7 @@ ghost use Rattle.smt_meaning.specs.Seen.{seen};
 ghost use Rattle.ports.specs.Flow.{SourceTold};
 ghost use Rattle.proof_check.specs.Folds.{get_proof};
 ghost use Rattle.proof_check.specs.Progress.{HasRoom, IsAsked, SoFar, folded};
-ghost use Rattle.proof_check.specs.Taken.{every_stack};
+ghost use Rattle.session.specs.Taken.{every_stack};
 
 use crate::intake::{Halt, Intake};
 use crate::undecided::Undecided;

@@ -14,15 +14,7 @@ use theory_port::{Decider, Verdict};
 pub struct Undecided;
 
 impl Decider for Undecided {
-    ghost use Rattle.proof_check.specs.Taken.{every_stack};
-
-    ghost decides = { every_stack };
-
     ghost may = { λ _. Unit {0} };
-
-    fn takes(&self, _alloc: Global, _stack: &Stack) -> Result<bool, AllocError> {
-        Ok(true)
-    }
 
     fn decide(
         &mut self,
@@ -32,10 +24,6 @@ impl Decider for Undecided {
     ) -> Result<Verdict, AllocError> {
         Ok(Verdict::Unknown(reports(alloc, settings.workers)?))
     }
-
-    fn takes_all(&self) {}
-
-    fn cut_to(&mut self, _level: i32) {}
 }
 
 /// A report of each worker that memory is wanting.

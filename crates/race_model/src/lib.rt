@@ -1,5 +1,6 @@
 //! The race of workers over one stack as a pure machine: its state, its events and their steps, and
-//! the law over every order of them. The program doesn't call it yet.
+//! the law over every order of them. The program runs no `RaceState`: the contract of `race_cell`
+//! says that its history is one of these races.
 //!
 //! `RaceState::step`: does exactly what the event says, or answers false and changes nothing,
 //! exactly where a condition of the event that can be tested doesn't hold.

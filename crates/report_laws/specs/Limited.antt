@@ -13,7 +13,7 @@ use Rattle.report_laws.specs.OneLeaf.{IsOverOneLeaf}
 abbrev pub HasNoPivots : List Spent → Type 0
 HasNoPivots us = (before after : List Spent) (l : Line) → us ≡ before ++ Pivot l ∷ after → ⊥
 
--- a learnt clause has not the literals of an earlier one, so of m atoms come at most m + 3^m units that aren't pivots
+-- a learnt clause has not the literals of an earlier one, so where no unit is a pivot, of m atoms come at most m + 3^m units
 abbrev pub FewUnitsAreNotSpent : Type 0
 FewUnitsAreNotSpent =
     (ts : List Tree) (frames : List Frame) (limit : ℤ) (branches : List Line) (us : List Spent) (atoms : List Atom)

@@ -14,8 +14,6 @@ use Rattle.search_port.specs.declared.budget.Spent.{Spent}
 use Rattle.search_port.specs.declared.budget.Spent.TheVariants.{Learnt, Numbered, Pivot}
 use Rattle.search_port.specs.declared.budget.Cause.{Cause}
 use Rattle.search_port.specs.declared.budget.Cause.TheVariants.{Units, Memory, Cancelled}
-use Rattle.search_port.specs.declared.bare.Judged.{Judged}
-use Rattle.search_port.specs.declared.bare.Judged.TheVariants.{Fine as JudgedFine, Conflict as JudgedConflict}
 use Rattle.search_port.specs.declared.theory.Asserted.{Asserted}
 use Rattle.search_port.specs.declared.theory.Asserted.TheVariants.{Taken, Conflict as AssertConflict, Ended as AssertEnded}
 use Rattle.search_port.specs.declared.theory.Inferred.{Inferred}
@@ -96,11 +94,6 @@ pub record AreNews (t : TheoryState) (b c : Spending) (cs : List Lemma) (P : Lis
   pub all : All (IsLemma t.reading) cs
   pub news : length c.units ≤ length b.units → AreLemmas t cs P
 
--- clauses of the theory, each of which has all literals false but at most one, which is open
-pub record ArePressing (t : TheoryState) (cs : List Lemma) : Type 0 where
-  pub lemmas : All (IsLemma t.reading) cs
-  pub pressing : All (λ (c : Lemma). IsPressing t.log c.literals) cs
-
 -- what propagation by the theory finds: nothing, a conflict, or lemmas one of which has all literals false but at most one
 abbrev pub InferredBy : TheoryState → Spending → Spending → Inferred → Type 0
 InferredBy t b c Quiet = Unit {0}
@@ -120,8 +113,3 @@ CheckedBy t b c (Fine tables) = IsModelOf t tables
 CheckedBy t b c (CheckConflict d) = IsConflict t d
 CheckedBy t b c (CheckLemmas cs) = AreNews t b c cs (λ ls. IsMadeTrue t.log ls → ⊥)
 CheckedBy t b c (CheckEnded cause) = EndsBy t c cause
-
--- a model, or a conflict
-abbrev pub JudgedBy : TheoryState → Judged → Type 0
-JudgedBy t (JudgedFine tables) = IsModelOf t tables
-JudgedBy t (JudgedConflict c) = IsConflict t c

@@ -47,10 +47,6 @@ atom_at table n = slice_index_or table n (Truth 0)
 abbrev pub truth_atoms : List ℕ → List Atom
 truth_atoms places = map (λ (i : ℕ). Truth i) places
 
--- where each number's atom is the truth of the term at its place, and there are no others
-abbrev pub truths_reading : List Tree → List Frame → List ℕ → Reading
-truths_reading trees frames places = record { trees = trees; frames = frames; table = truth_atoms places; closed = true }
-
 -- the atom is the truth of a term
 abbrev pub IsTruth : Atom → Type 0
 IsTruth a = (i : ℕ) × (a ≡ Truth i)

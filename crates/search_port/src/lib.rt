@@ -1,13 +1,13 @@
 //! What the search asks of a theory (Nieuwenhuis, Oliveras and Tinelli, JACM 2006), the budget of
-//! units that it lends, and the theory of no theory.
+//! units that it lends.
 //!
-//! `Theory`, `About`: conflicts are false under what was asserted; conflicts and lemmas are true
+//! `Theory`: conflicts are false under what was asserted; conflicts and lemmas are true
 //! under every interpretation, at the least level of their symbols; a model makes each asserted
 //! literal true; what is taken back.
 //!
 //! The units that a call of a theory spends are each atom newly numbered, once and in order, an
 //! equality only if both its sides are Ints, and, where lines are kept, pivots by Bland's rule in
-//! rows over numbered atoms. `Bare` is the theory of truths alone, over whoever knows about terms.
+//! rows over numbered atoms.
 //!
 //! `Named`: the atom of each number, written out, and the number of each atom that has one.
 //!
@@ -28,13 +28,11 @@
 ghost use Rattle.search_port.specs.Valid.{FollowsAsWritten};
 ghost use Rattle.search_port.specs.Forcing.{ForcesByNumbers, ForcesInTurn};
 
-mod bare;
 mod budget;
 mod shown;
 mod theory;
 mod told;
 
-pub use bare::{About, Bare, Judged};
 pub use budget::{Budget, Cause, Lemma, Spent};
 pub use shown::{Named, Showing, Shown};
 pub use theory::{Asserted, Checked, Inferred, Theory};

@@ -9,18 +9,19 @@ use Rattle.smt_meaning.specs.declared.replies.Kept.TheVariants.{Nothing}
 use Rattle.smt_meaning.specs.Sexp.{sexp}
 use Rattle.smt_meaning.specs.Command.{command}
 use Rattle.smt_meaning.specs.State.{State}
-use Rattle.smt_meaning.specs.MayReply.{Decided, MayReply, MayReplyTo, Replies}
+use Rattle.smt_meaning.specs.MayReply.{MayReply, MayReplyTo, Replies}
 use Rattle.session.specs.declared.state.Done.{Done}
+use Rattle.session.specs.Taken.{every_stack}
 
-module _ (decided : Decided) (old : State) (ts : List Token) where
+module _ (old : State) (ts : List Token) where
   -- by what the command comes to
   pub replied : (new : State) (c : Command) (r : Result Done AllocError) → Ok c ≡ command (sexp ts)
-      → IfOk r (λ d. MayReply decided old c d.reply d.kept new) → IfOk r (λ d. Replies decided old ts d.reply d.kept new)
+      → IfOk r (λ d. MayReply every_stack old c d.reply d.kept new) → IfOk r (λ d. Replies every_stack old ts d.reply d.kept new)
   unfolding Replies
-  replied new c (Ok d) is may = subst (λ x. MayReplyTo decided old x d.reply d.kept new) is may
+  replied new c (Ok d) is may = subst (λ x. MayReplyTo every_stack old x d.reply d.kept new) is may
   replied new c (Err e) is may = may
 
   -- by the error, where it is no command
-  pub refused : (e : Error) → Err e ≡ command (sexp ts) → Replies decided old ts (Given.Error e) Nothing old
+  pub refused : (e : Error) → Err e ≡ command (sexp ts) → Replies every_stack old ts (Given.Error e) Nothing old
   unfolding Replies
-  refused e is = subst (λ x. MayReplyTo decided old x (Given.Error e) Nothing old) is (record { reply_is = refl; kept_is = refl; new_is = refl })
+  refused e is = subst (λ x. MayReplyTo every_stack old x (Given.Error e) Nothing old) is (record { reply_is = refl; kept_is = refl; new_is = refl })

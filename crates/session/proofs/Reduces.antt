@@ -17,13 +17,14 @@ use Rattle.smt_meaning.specs.Sexp.{sexp}
 use Rattle.smt_meaning.specs.Stack.{Assertion as Asserted, Frame, assertions_of, terms_of}
 use Rattle.smt_meaning.specs.StackCommand.{Stack}
 use Rattle.smt_meaning.specs.State.{State, assumed, checked_frames, get_unsat_assumptions, get_unsat_core, is_unsat, named, texts_of}
-use Rattle.smt_meaning.specs.MayReply.{Decided, MayCome}
+use Rattle.smt_meaning.specs.MayReply.{MayCome}
 use Rattle.smt_meaning.specs.Term.{Tree}
 use Rattle.scope_stack.specs.declared.answers.Assertion.{Assertion}
 use Rattle.scope_stack.specs.Shown.{AreAsserted}
 use Rattle.goal_search.specs.Checked.{WhereUnsat}
 use Rattle.goal_search.specs.Tries.{AreCandidates}
 use Rattle.session.specs.Reduced.{IsHeldAmong}
+use Rattle.session.specs.Taken.{every_stack}
 use Rattle.session.proofs.CoreCandidates.{from_first, held_within, names_are_candidates, ranges_are_candidates}
 use Rattle.session.proofs.Replies.{core_given}
 
@@ -122,25 +123,25 @@ held_named s xs ys ps ts frames workers limit hs h k e r =
     below n [] a = All-nil (λ (x : Held). x.place < n)
     below n (u ∷ us) a = All-cons (λ (x : Held). x.place < n) u us (All-head (λ (x : Held). (0 ≤ x.place) × (x.place < n)) u us a).1 (below n us (All-tail (λ (x : Held). (0 ≤ x.place) × (x.place < n)) u us a))
 
-pub core_answered : (decided : Decided) (old mid : State) (xs ys : List Assertion) (ps : List ℕ) (hs : List Held) (names : List (List ℕ)) → is_unsat old.mode ≡ true → old.options.produce_unsat_cores ≡ true → mid ≡ old
+pub core_answered : (old mid : State) (xs ys : List Assertion) (ps : List ℕ) (hs : List Held) (names : List (List ℕ)) → is_unsat old.mode ≡ true → old.options.produce_unsat_cores ≡ true → mid ≡ old
     → AreAsserted old.stack xs → AreAsserted mid.stack ys → ps ≡ named_places 0 (map text xs) → IsReduced old.settings.workers (checked_trees old) (checked_frames old) old.options.reproducible_resource_limit ps hs
-    → names ≡ map (λ (h : Held). name_or_none (name_of (sexp (text_at (map text ys) h.place)))) hs → MayCome decided old (get_unsat_core old) (UnsatCore names) (Core hs) mid
-core_answered decided old mid xs ys ps hs names unsat on e h k p r n =
+    → names ≡ map (λ (h : Held). name_or_none (name_of (sexp (text_at (map text ys) h.place)))) hs → MayCome every_stack old (get_unsat_core old) (UnsatCore names) (Core hs) mid
+core_answered old mid xs ys ps hs names unsat on e h k p r n =
     let ys_of : AreAsserted old.stack ys = subst (λ (t : State). AreAsserted t.stack ys) e k in
     let places_are : ps ≡ named_places 0 (stack_texts old) = p ∙ ap (named_places 0) h.texts in
-    core_given decided named Named.ProduceUnsatCores old.options.produce_unsat_cores old hs (UnsatCore names) (Core hs) mid unsat on e
+    core_given named Named.ProduceUnsatCores old.options.produce_unsat_cores old hs (UnsatCore names) (Core hs) mid unsat on e
     (subst (λ qs. IsReduced old.settings.workers (checked_trees old) (checked_frames old) old.options.reproducible_resource_limit qs hs) places_are r)
     (ap UnsatCore (n ∙ same_names old (map text ys) hs ys_of.texts
     (subst (λ m. All (λ (x : Held). x.place < m) hs) (sym (length-map ys text)) (held_named old.stack xs ys ps (checked_trees old) (checked_frames old) old.settings.workers old.options.reproducible_resource_limit hs h ys_of p r))))
     refl
 
-pub assumptions_answered : (decided : Decided) (old mid : State) (xs : List Assertion) (below : ℕ) (texts found : List (List Token)) (ps : List ℕ) (hs : List Held) → is_unsat old.mode ≡ true
+pub assumptions_answered : (old mid : State) (xs : List Assertion) (below : ℕ) (texts found : List (List Token)) (ps : List ℕ) (hs : List Held) → is_unsat old.mode ≡ true
     → old.options.produce_unsat_assumptions ≡ true → mid ≡ old → AreAsserted old.stack xs → below ≡ length xs → texts ≡ flat_map texts_of old.above → ps ≡ range_with_len below (length texts)
     → IsReduced old.settings.workers (checked_trees old) (checked_frames old) old.options.reproducible_resource_limit ps hs → found ≡ map (λ (h : Held). text_at texts (h.place - below)) hs
-    → MayCome decided old (get_unsat_assumptions old) (UnsatAssumptions found) (Core hs) mid
-assumptions_answered decided old mid xs below texts found ps hs unsat on e h b t p r n =
+    → MayCome every_stack old (get_unsat_assumptions old) (UnsatAssumptions found) (Core hs) mid
+assumptions_answered old mid xs below texts found ps hs unsat on e h b t p r n =
     let count : below ≡ length (stack_texts old) = b ∙ sym (length-map xs text) ∙ ap length h.texts in
-    core_given decided assumed Named.ProduceUnsatAssumptions old.options.produce_unsat_assumptions old hs (UnsatAssumptions found) (Core hs) mid unsat on e
+    core_given assumed Named.ProduceUnsatAssumptions old.options.produce_unsat_assumptions old hs (UnsatAssumptions found) (Core hs) mid unsat on e
     (subst (λ qs. IsReduced old.settings.workers (checked_trees old) (checked_frames old) old.options.reproducible_resource_limit qs hs)
     (p ∙ ap (λ m. range_with_len m (length texts)) count ∙ ap (λ ws. range_with_len (length (stack_texts old)) (length ws)) t) r)
     (ap UnsatAssumptions (n ∙ same_texts old below texts hs t count (held_within below (below + length texts) (checked_trees old) (checked_frames old) old.settings.workers old.options.reproducible_resource_limit ps hs (assumed_inside below texts ps p) r)))

@@ -4,6 +4,7 @@ pub mod StateCode
 pub mod Above
 pub mod Refuted
 pub mod Reduced
+pub mod Taken
 pub mod Effects
 pub mod Heeded
 pub mod Minimized

@@ -194,13 +194,9 @@ pub(crate) fn minimize_under<D: Decider>(
     let count = stack.terms().len();
     let term = ask_goal(alloc, stack, text)?;
     match minimized(alloc, decider, settings, stack, text, term) {
-        Ok(assumed) => {
-            decider.cut_to(i32::from(stack.depth()));
-            Ok(assumed)
-        }
+        Ok(assumed) => Ok(assumed),
         Err(AllocError) => {
             stack.forget(count);
-            decider.cut_to(-1);
             Err(StackError::Memory)
         }
     }

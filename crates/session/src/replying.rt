@@ -2,6 +2,7 @@
 ghost use Rattle.std.specs.Prelude.{◌≡◌, ◌↔◌, IfOk, IsTrue, OnErr};
 ghost use Rattle.smt_meaning.specs.LegalJournal.{IsExit};
 ghost use Rattle.smt_meaning.specs.MayReply.{Replies};
+ghost use Rattle.session.specs.Taken.{every_stack};
 
 use crate::state::{Done, Session};
 use smt_command::command;
@@ -20,7 +21,7 @@ impl Session {
     ) -> Result<Done, AllocError>
         requires may { D.may decider.old }
         ensures still { D.may decider.new }
-        ensures reply { IfOk result (λ d. Replies D.decides self.old sexpr.now d.reply d.kept self.new) }
+        ensures reply { IfOk result (λ d. Replies every_stack self.old sexpr.now d.reply d.kept self.new) }
         ensures stop { IfOk result (λ d. IsTrue d.stop ↔ IsExit sexpr.now) }
         ensures err { OnErr result (self.new ≡ self.old) }
     {

@@ -89,6 +89,7 @@ impl Session {
     ghost use Rattle.goal_search.specs.Checked.{WhereUnsat};
     ghost use Rattle.session.specs.Refuted.{IsRefuted};
     ghost use Rattle.session.specs.LastCheck.{is_after_check, IsOfLastCheck};
+    ghost use Rattle.session.specs.Taken.{every_stack};
 
     /// The state at the start of a run. It takes no memory.
     pub fn new(alloc: Global, settings: &Settings) -> Self
@@ -114,7 +115,7 @@ impl Session {
     ) -> Result<Done, AllocError>
         requires may { D.may decider.old }
         ensures still { D.may decider.new }
-        ensures reply { IfOk result (λ done. MayReply D.decides self.old command.now done.reply done.kept self.new) }
+        ensures reply { IfOk result (λ done. MayReply every_stack self.old command.now done.reply done.kept self.new) }
         ensures stop { IfOk result (λ done. IsTrue done.stop ↔ (command.now ≡ Exit)) }
         ensures err { OnErr result (self.new ≡ self.old) }
     {
@@ -153,7 +154,7 @@ impl Session {
     ) -> Result<(Reply, Kept), AllocError>
         requires may { D.may decider.old }
         ensures still { D.may decider.new }
-        ensures ok { IfOk result (λ answer. MayReply D.decides self.old command.now answer.0 answer.1 self.new) }
+        ensures ok { IfOk result (λ answer. MayReply every_stack self.old command.now answer.0 answer.1 self.new) }
         ensures err { OnErr result (self.new ≡ self.old) }
     {
         match command {
@@ -166,23 +167,8 @@ impl Session {
             Command::Minimize(term) => self.minimize(alloc, term, decider),
             _ => {
                 let reply = self.answer(alloc, command)?;
-                self.cut(command, decider);
                 Ok((reply, Kept::Nothing))
             }
-        }
-    }
-
-    /// Has the decider forget what a command took from under it.
-    fn cut<D: Decider>(&self, command: &Command, decider: &mut D)
-        requires { D.may decider.old }
-        ensures { D.may decider.new }
-    {
-        match command {
-            Command::SetOption(OptionSetting::GlobalDeclarations(_))
-            | Command::Reset
-            | Command::ResetAssertions => decider.cut_to(-1),
-            Command::Pop(_) => decider.cut_to(i32::from(self.stack.depth())),
-            _ => {}
         }
     }
 
@@ -308,6 +294,22 @@ impl Session {
         self.above = above;
     }
 
+    /// Enters the mode of an answer under assumptions, and gives the reply and what is kept with it.
+    fn conclude(&mut self, assumed: Assumed) -> (Reply, Kept)
+        requires above { AreAbove self.old.stack.trees (Above.Assumed assumed.assumptions) }
+        requires refuted { WhereUnsat assumed.answer.mode (IsRefuted self.old.stack (Above.Assumed assumed.assumptions)) }
+        ensures state { self.new ≡ record (with_logic self.old) { mode = assumed.answer.mode; above = above_by self.old.stack.trees (Above.Assumed assumed.assumptions) } }
+        ensures reply { result.0 ≡ assumed.answer.reply }
+        ensures kept { result.1 ≡ assumed.answer.kept }
+    {
+        let Assumed {
+            answer,
+            assumptions,
+        } = assumed;
+        self.enter(answer.mode, Above::Assumed(assumptions));
+        (answer.reply, answer.kept)
+    }
+
     /// `(set-logic name)`
     fn set_logic(&mut self, name: &[u8]) -> Reply
         ensures { Comes (set_logic self.old name.now self.old.logic) self.old result self.new }
@@ -429,7 +431,7 @@ impl Session {
     ) -> Result<(Reply, Kept), AllocError>
         requires may { D.may decider.old }
         ensures still { D.may decider.new }
-        ensures ok { IfOk result (λ answer. MayCome D.decides self.old (get_unsat_core self.old) answer.0 answer.1 self.new) }
+        ensures ok { IfOk result (λ answer. MayCome every_stack self.old (get_unsat_core self.old) answer.0 answer.1 self.new) }
         ensures err { OnErr result (self.new ≡ self.old) }
     {
         if !is_unsat(&self.mode) {
@@ -454,7 +456,7 @@ impl Session {
     ) -> Result<(Reply, Kept), AllocError>
         requires may { D.may decider.old }
         ensures still { D.may decider.new }
-        ensures ok { IfOk result (λ answer. MayCome D.decides self.old (get_unsat_assumptions self.old) answer.0 answer.1 self.new) }
+        ensures ok { IfOk result (λ answer. MayCome every_stack self.old (get_unsat_assumptions self.old) answer.0 answer.1 self.new) }
         ensures err { OnErr result (self.new ≡ self.old) }
     {
         if !is_unsat(&self.mode) {
@@ -505,13 +507,11 @@ impl Session {
     ) -> Result<(Reply, Kept), AllocError>
         requires may { D.may decider.old }
         ensures still { D.may decider.new }
-        ensures ok { IfOk result (λ answer. MayCome D.decides self.old (checks self.old self.old.stack []) answer.0 answer.1 self.new) }
+        ensures ok { IfOk result (λ answer. MayCome every_stack self.old (checks self.old self.old.stack []) answer.0 answer.1 self.new) }
         ensures err { OnErr result (self.new ≡ self.old) }
     {
         let settings = in_force(&self.settings, &self.options);
-        let Some(answer) = checked(alloc, decider, &settings, &mut self.stack)? else {
-            return Ok((Reply::Unsupported, Kept::Nothing));
-        };
+        let answer = checked(alloc, decider, &settings, &mut self.stack)?;
         self.mode = Mode::Assert;
         self.above = Above::Nothing;
         self.enter(answer.mode, Above::Nothing);
@@ -527,22 +527,16 @@ impl Session {
     ) -> Result<(Reply, Kept), AllocError>
         requires may { D.may decider.old }
         ensures still { D.may decider.new }
-        ensures ok { IfOk result (λ answer. MayCome D.decides self.old (check_assuming self.old (stack_command (CheckSatAssuming terms.now))) answer.0 answer.1 self.new) }
+        ensures ok { IfOk result (λ answer. MayCome every_stack self.old (check_assuming self.old (stack_command (CheckSatAssuming terms.now))) answer.0 answer.1 self.new) }
         ensures err { OnErr result (self.new ≡ self.old) }
     {
         let settings = in_force(&self.settings, &self.options);
         match check_under(alloc, decider, &settings, &mut self.stack, terms) {
-            Ok(Some(assumed)) => {
-                let Assumed {
-                    answer,
-                    assumptions,
-                } = assumed;
+            Ok(assumed) => {
                 self.mode = Mode::Assert;
                 self.above = Above::Nothing;
-                self.enter(answer.mode, Above::Assumed(assumptions));
-                Ok((answer.reply, answer.kept))
+                Ok(self.conclude(assumed))
             }
-            Ok(None) => Ok((Reply::Unsupported, Kept::Nothing)),
             Err(StackError::Refused(why)) => {
                 let reply = refused(alloc, b"check-sat-assuming", why)?;
                 Ok((reply, Kept::Nothing))
@@ -560,20 +554,15 @@ impl Session {
     ) -> Result<(Reply, Kept), AllocError>
         requires may { D.may decider.old }
         ensures still { D.may decider.new }
-        ensures ok { IfOk result (λ answer. MayCome D.decides self.old (minimize self.old text.now (stack_command (Minimize text.now))) answer.0 answer.1 self.new) }
+        ensures ok { IfOk result (λ answer. MayCome every_stack self.old (minimize self.old text.now (stack_command (Minimize text.now))) answer.0 answer.1 self.new) }
         ensures err { OnErr result (self.new ≡ self.old) }
     {
         let settings = in_force(&self.settings, &self.options);
         match minimize_under(alloc, decider, &settings, &mut self.stack, text) {
             Ok(assumed) => {
-                let Assumed {
-                    answer,
-                    assumptions,
-                } = assumed;
                 self.mode = Mode::Assert;
                 self.above = Above::Nothing;
-                self.enter(answer.mode, Above::Assumed(assumptions));
-                Ok((answer.reply, answer.kept))
+                Ok(self.conclude(assumed))
             }
             Err(StackError::Refused(why)) => {
                 let reply = refused(alloc, b"minimize", why)?;

@@ -1,7 +1,6 @@
 -- What the program comes to: its run, and what it says of how that ended.
 use Rattle.std.specs.Prelude.{◌≡◌, ◌⊎◌, ◌^◌, List, [], ℕ, Result, Ok, Err, codes, map, string_bytes, Vec, String}
 use Rattle.ports.specs.Flow.{SinkTold, Rose}
-use Rattle.smt_top.specs.Taken.{every_stack}
 use Rattle.smt_words.specs.declared.error.WordsError.{WordsError}
 use Rattle.smt_top.specs.declared.top.Note.{Note}
 use Rattle.smt_top.specs.declared.top.Note.TheVariants.{Fine, Words, ReadFault, WriteFault, NoMemory, TooLong}
@@ -32,5 +31,5 @@ pub record IsIdle (error : WordsError) (e : Ends) (ended : Ended) : Type 0 where
 
 -- A run under these words, or none where they can't be had.
 abbrev pub IsServed : {A B : Type 0} → Result (Vec (String A) B) WordsError → Ends → Ended → Type 0
-IsServed (Ok words) e ended = RanUnder every_stack (2 ^ 40) (map string_bytes words.items) e ended
+IsServed (Ok words) e ended = RanUnder (2 ^ 40) (map string_bytes words.items) e ended
 IsServed (Err error) e ended = IsIdle error e ended

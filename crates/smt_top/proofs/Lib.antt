@@ -1,5 +1,4 @@
 mod Written
-mod Answering
 mod Turns
 mod Servings
 mod Driving

@@ -1,4 +1,3 @@
 pub mod Ledgers
 pub mod Progress
 pub mod Ended
-pub use Rattle.portfolio.specs.Taken

@@ -5,7 +5,6 @@ use Rattle.smt_meaning.specs.Reading.{Unread, Answer, IsSettled, MayFollow}
 use Rattle.smt_reader.specs.Reader.{Skips}
 use Rattle.smt_meaning.specs.State.{State}
 use Rattle.smt_meaning.specs.LegalJournal.{Moment, beginning, Runs, IsLegal, IsLegalSoFar, IsStopped, AnswersSettled, journal_text}
-use Rattle.smt_meaning.specs.MayReply.{Decided}
 use Rattle.smt_meaning.specs.Text.{text}
 use Rattle.smt_meaning.specs.declared.settings.Settings.{Settings}
 use Rattle.smt_meaning.specs.declared.answers.Entry.{Entry}
@@ -19,6 +18,7 @@ use Rattle.smt_top.specs.declared.top.Halt.TheVariants.{Memory, ReadFault, Write
 use Rattle.smt_top.specs.declared.serving.Stage.{Stage}
 use Rattle.smt_top.specs.declared.serving.Stage.TheVariants.{Asks, Complete}
 use Rattle.ports.specs.Flow.{SourceTold, SinkTold, Rose, RoseBy}
+use Rattle.session.specs.Taken.{every_stack}
 use Rattle.smt_top.specs.Ledgers.{Gains}
 
 -- The journal
@@ -51,33 +51,33 @@ abbrev pub moment : Run → List ℕ → Moment
 moment r more = record { place = r.reader.place; bytes = r.reader.bytes ++ more; state = r.session; number = length r.journal }
 
 -- The run has answered the front of the input, and what isn't read is all that is left of it, whatever follows.
-unfoldable pub HasLeft : Decided → Settings → List ℕ → Run → Type 0
-HasLeft decided s input r = (more : List ℕ) → MayFollow r.reader.finished more → Runs decided (beginning s (input ++ more)) r.journal (moment r more)
+unfoldable pub HasLeft : Settings → List ℕ → Run → Type 0
+HasLeft s input r = (more : List ℕ) → MayFollow r.reader.finished more → Runs every_stack (beginning s (input ++ more)) r.journal (moment r more)
 
 -- The run has answered the front of the input, whatever follows. Of what is left of it the reader may have let white space and comments go.
-unfoldable pub HasAnswered : Decided → Settings → List ℕ → Run → Type 0
-HasAnswered decided s input r = (left : Unread) × Skips left r.reader × HasLeft decided s input (record r { reader = left })
+unfoldable pub HasAnswered : Settings → List ℕ → Run → Type 0
+HasAnswered s input r = (left : Unread) × Skips left r.reader × HasLeft s input (record r { reader = left })
 
 -- The run has answered the input, whatever follows.
-unfoldable pub IsComplete : Decided → Settings → List ℕ → Run → Type 0
-IsComplete decided s input r = (more : List ℕ) → MayFollow r.reader.finished more → IsLegal decided s (input ++ more) r.journal
+unfoldable pub IsComplete : Settings → List ℕ → Run → Type 0
+IsComplete s input r = (more : List ℕ) → MayFollow r.reader.finished more → IsLegal every_stack s (input ++ more) r.journal
 
 -- The journal is legal for the input as far as it goes, whatever follows.
-unfoldable pub IsFront : Decided → Settings → List ℕ → Bool → List Entry → Type 0
-IsFront decided s input finished journal = (more : List ℕ) → MayFollow finished more → IsLegalSoFar decided s (input ++ more) journal
+unfoldable pub IsFront : Settings → List ℕ → Bool → List Entry → Type 0
+IsFront s input finished journal = (more : List ℕ) → MayFollow finished more → IsLegalSoFar every_stack s (input ++ more) journal
 
 -- What isn't read settles nothing.
 abbrev pub NoneSettled : Unread → Type 0
 NoneSettled u = (a : Answer) → IsSettled u a → ⊥
 
 -- Why a run is over: its input is, or an exit or a fault was answered.
-abbrev pub IsOver : Decided → Settings → List ℕ → Run → Type 0
-IsOver decided s input r = (r.reader.finished ≡ true) ⊎ IsStopped decided s input r.journal
+abbrev pub IsOver : Settings → List ℕ → Run → Type 0
+IsOver s input r = (r.reader.finished ≡ true) ⊎ IsStopped every_stack s input r.journal
 
 -- What is so where a run stops.
-abbrev pub Comes : Decided → Settings → Stage → List ℕ → Run → Type 0
-Comes decided s Asks input r = HasAnswered decided s input r × (r.reader.finished ≡ false) × NoneSettled r.reader
-Comes decided s Complete input r = IsComplete decided s input r × IsOver decided s input r
+abbrev pub Comes : Settings → Stage → List ℕ → Run → Type 0
+Comes s Asks input r = HasAnswered s input r × (r.reader.finished ≡ false) × NoneSettled r.reader
+Comes s Complete input r = IsComplete s input r × IsOver s input r
 
 -- What is written
 
@@ -131,17 +131,17 @@ WriteCause (Err StopMemory) before now = before ≤ now
 WriteCause (Err StopWriteFault) before now = (before ≤ now) × Rose before now
 
 -- What a call of the server did: it gave these entries to the ledger and their texts to the sink, and where the entries before had answered the front of the input, all of them now do. Where the call ended well, this holds after it.
-pub record Served {T K : Type 0} (decided : Decided) (result : Result T Stop) (old new : Server) (sink sink_now : K) (told told_now : SinkTold)
+pub record Served {T K : Type 0} (result : Result T Stop) (old new : Server) (sink sink_now : K) (told told_now : SinkTold)
     (kept kept_now : Option (List Entry)) (After : Settings → List ℕ → T → Run → Type 0) : Type 0 where
   pub added : List Entry
   pub gained : Gains kept added kept_now
   pub tally : (entries : List Entry) → Tallies old entries → Tallies new (entries ++ added)
   pub silent : journal_text added ≡ [] → sink_now ≡ sink
   pub written : (before : SinkTold) (entries : List Entry) → IsWritten before told entries → WrittenAfter result before told_now (entries ++ added)
-  pub comes : (s : Settings) (input : List ℕ) (entries : List Entry) → Tallies old entries → HasAnswered decided s input (run_of old entries)
+  pub comes : (s : Settings) (input : List ℕ) (entries : List Entry) → Tallies old entries → HasAnswered s input (run_of old entries)
       → IfOk result (λ r. After s input r (run_of new (entries ++ added)))
-  pub cut : (s : Settings) (input : List ℕ) (entries : List Entry) → Tallies old entries → HasAnswered decided s input (run_of old entries)
-      → IfErr result (λ _. IsFront decided s input new.reader.finished (entries ++ added))
+  pub cut : (s : Settings) (input : List ℕ) (entries : List Entry) → Tallies old entries → HasAnswered s input (run_of old entries)
+      → IfErr result (λ _. IsFront s input new.reader.finished (entries ++ added))
 
 -- The two ends
 
@@ -181,7 +181,7 @@ pub record Took (e : Ends) (input : List ℕ) (given : ℕ) : Type 0 where
 -- How a run stands
 
 -- A run that goes on after so many calls of the source, with no more entries than bytes read: each gave a byte or more, at least one and at most 65536, unless one was the end; and what was ready of the bytes is answered and written.
-pub record SoFar (decided : Decided) (s : Settings) (e : Ends) (count : ℕ) (r : Run) : Type 0 where
+pub record SoFar (s : Settings) (e : Ends) (count : ℕ) (r : Run) : Type 0 where
   pub input : List ℕ
   pub given : ℕ
   pub took : Took e input given
@@ -190,24 +190,24 @@ pub record SoFar (decided : Decided) (s : Settings) (e : Ends) (count : ℕ) (r 
   pub but_one : r.reader.finished ≡ true → given < count
   pub few : r.reader.place + length r.reader.bytes ≤ 65536 * count
   pub ended : r.reader.finished ≡ true → IsAtEnd e.source_now.left
-  pub answered : HasAnswered decided s input r
+  pub answered : HasAnswered s input r
   pub numbered : length r.journal ≤ r.reader.place
   pub whole : IsWritten e.sink e.sink_now r.journal
   pub later : Later e
 
 -- Why a run is over after at most so many calls of the source: one of them was at the end, or an exit or a fault was answered.
-abbrev pub IsDone : Decided → Settings → Ends → ℕ → List ℕ → ℕ → List Entry → Type 0
-IsDone decided s e count input given journal = (IsAtEnd e.source_now.left × (given < count)) ⊎ IsStopped decided s input journal
+abbrev pub IsDone : Settings → Ends → ℕ → List ℕ → ℕ → List Entry → Type 0
+IsDone s e count input given journal = (IsAtEnd e.source_now.left × (given < count)) ⊎ IsStopped every_stack s input journal
 
 -- A run that is over: its journal is legal for the bytes that it took and for all that the source has, and is written.
-pub record Over (decided : Decided) (s : Settings) (e : Ends) (count : ℕ) (r : Run) : Type 0 where
+pub record Over (s : Settings) (e : Ends) (count : ℕ) (r : Run) : Type 0 where
   pub input : List ℕ
   pub given : ℕ
   pub took : Took e input given
   pub within : given ≤ count
-  pub legal : IsLegal decided s input r.journal
-  pub legal_for_all : IfSome e.source.left (λ all. IsLegal decided s all r.journal)
-  pub over : IsDone decided s e count input given r.journal
+  pub legal : IsLegal every_stack s input r.journal
+  pub legal_for_all : IfSome e.source.left (λ all. IsLegal every_stack s all r.journal)
+  pub over : IsDone s e count input given r.journal
   pub whole : IsWritten e.sink e.sink_now r.journal
   pub later : Later e
 
@@ -217,40 +217,40 @@ WrittenAtHalt ReadFault before now journal = IsWritten before now journal
 WrittenAtHalt WriteFault before now journal = IsTorn before now journal
 
 -- A run that was cut off after at most so many calls of the source, by a fault where its count rose: its journal is legal as far as it goes, and is written up to the entry whose text wasn't taken. Where the source failed it answers all that is settled.
-pub record CutOff (decided : Decided) (s : Settings) (halt : Halt) (e : Ends) (count : ℕ) (r : Run) : Type 0 where
+pub record CutOff (s : Settings) (halt : Halt) (e : Ends) (count : ℕ) (r : Run) : Type 0 where
   pub input : List ℕ
   pub given : ℕ
   pub took : Took e input given
   pub within : given ≤ count
-  pub legal : IsLegalSoFar decided s input r.journal
-  pub legal_for_all : IfSome e.source.left (λ all. IsLegalSoFar decided s all r.journal)
-  pub settled : halt ≡ ReadFault → AnswersSettled decided s input r.journal
+  pub legal : IsLegalSoFar every_stack s input r.journal
+  pub legal_for_all : IfSome e.source.left (λ all. IsLegalSoFar every_stack s all r.journal)
+  pub settled : halt ≡ ReadFault → AnswersSettled every_stack s input r.journal
   pub written : WrittenAtHalt halt e.sink e.sink_now r.journal
   pub later : Later e
   pub read : halt ≡ ReadFault → Rose e.source.faults e.source_now.faults × (given < count)
   pub write : halt ≡ WriteFault → Rose e.sink.faults e.sink_now.faults
 
 -- How a run stands after a call.
-abbrev pub Stands : Decided → Settings → Result Stage Halt → Ends → ℕ → Run → Type 0
-Stands decided s (Ok Complete) e count r = Over decided s e count r
-Stands decided s (Ok Asks) e count r = SoFar decided s e count r × (r.reader.finished ≡ false) × NoneSettled r.reader
-Stands decided s (Err halt) e count r = CutOff decided s halt e count r
+abbrev pub Stands : Settings → Result Stage Halt → Ends → ℕ → Run → Type 0
+Stands s (Ok Complete) e count r = Over s e count r
+Stands s (Ok Asks) e count r = SoFar s e count r × (r.reader.finished ≡ false) × NoneSettled r.reader
+Stands s (Err halt) e count r = CutOff s halt e count r
 
 -- What is done with all that was ready.
-pub record Advances {K : Type 0} (decided : Decided) (result : Result Stage Halt) (old new : Server) (sink sink_now : K) (told told_now : SinkTold)
+pub record Advances {K : Type 0} (result : Result Stage Halt) (old new : Server) (sink sink_now : K) (told told_now : SinkTold)
     (kept kept_now : Option (List Entry)) : Type 0 where
   pub added : List Entry
   pub gained : Gains kept added kept_now
   pub tally : (entries : List Entry) → Tallies old entries → Tallies new (entries ++ added)
   pub silent : journal_text added ≡ [] → sink_now ≡ sink
-  pub stands : (s : Settings) (e : Ends) (count : ℕ) (entries : List Entry) → Tallies old entries → SoFar decided s e count (run_of old entries)
-      → e.sink_now ≡ told → Stands decided s result (at_sink e told_now) count (run_of new (entries ++ added))
+  pub stands : (s : Settings) (e : Ends) (count : ℕ) (entries : List Entry) → Tallies old entries → SoFar s e count (run_of old entries)
+      → e.sink_now ≡ told → Stands s result (at_sink e told_now) count (run_of new (entries ++ added))
 
 -- How a run stands after at most so many calls of its source, and what its ledger gained.
-pub record Driven {K : Type 0} (decided : Decided) (s : Settings) (result : Result Stage Halt) (e : Ends) (count : ℕ) (server : Server) (sink sink_now : K)
+pub record Driven {K : Type 0} (s : Settings) (result : Result Stage Halt) (e : Ends) (count : ℕ) (server : Server) (sink sink_now : K)
     (kept kept_now : Option (List Entry)) : Type 0 where
   pub journal : List Entry
   pub gained : Gains kept journal kept_now
   pub tally : Tallies server journal
   pub silent : journal_text journal ≡ [] → sink_now ≡ sink
-  pub stands : Stands decided s result e count (run_of server journal)
+  pub stands : Stands s result e count (run_of server journal)

@@ -4,12 +4,10 @@ ghost use Rattle.std.specs.Prelude.{◌≡◌, ◌≤◌, ◌<◌, ◌↔◌, �
 ghost use Rattle.smt_meaning.specs.declared.settings.Settings.{Settings as SettingsValue};
 ghost use Rattle.smt_meaning.specs.declared.answers.Entry.{Entry as EntryValue};
 ghost use Rattle.smt_meaning.specs.LegalJournal.{journal_text};
-ghost use Rattle.smt_meaning.specs.MayReply.{Decided};
 ghost use Rattle.smt_meaning.specs.State.{start};
 ghost use Rattle.smt_words.specs.Words.{are_taken, generated_of};
 ghost use Rattle.smt_words.specs.declared.Generated.{Generated as GeneratedValue};
 ghost use Rattle.script_gen.specs.Script.{script as made};
-ghost use Rattle.portfolio.specs.Taken.{every_stack};
 ghost use Rattle.theory_port.specs.Verdicts.{IsVerdict};
 ghost use Rattle.smt_top.specs.Progress.{Advances, CutOff, Driven, Ends, NoneSettled, SoFar, Tallies, at_source, between, run_of};
 ghost use Rattle.smt_top.specs.Ended.{IsUnbegun, MatchesStatus, RanThrough, RanUnder, StatusOf, made_of};
@@ -107,9 +105,9 @@ fn drive<S: Source, K: Sink, L: Ledger, D: Decider>(
 ) -> Result<Stage, Halt>
     requires may { D.may decider.old }
     requires budget { budget ≤ 2 ^ 40 }
-    requires begun { SoFar D.decides server.old.session.settings (between (S.told source.old) (K.told sink.old) (S.told source.old) (K.told sink.old)) 0 (run_of server.old []) }
+    requires begun { SoFar server.old.session.settings (between (S.told source.old) (K.told sink.old) (S.told source.old) (K.told sink.old)) 0 (run_of server.old []) }
     requires tally { Tallies server.old [] }
-    ensures { Driven D.decides server.old.session.settings result (between (S.told source.old) (K.told sink.old) (S.told source.new) (K.told sink.new)) budget server.new
+    ensures { Driven server.old.session.settings result (between (S.told source.old) (K.told sink.old) (S.told source.new) (K.told sink.new)) budget server.new
         sink.old sink.new (L.entries ledger.old) (L.entries ledger.new) }
 {
     let mut buf = vec![in alloc; 0u8; 65536]?;
@@ -139,7 +137,7 @@ fn serve_made<K: Sink, L: Ledger, D: Decider>(
     requires reader { server.old.reader ≡ record { place = 0; bytes = []; finished = false } }
     requires session { server.old.session ≡ start server.old.session.settings }
     requires tally { Tallies server.old [] }
-    ensures { Driven D.decides server.old.session.settings result (made_of (made generated.seed generated.size) (K.told sink.old) (K.told sink.new))
+    ensures { Driven server.old.session.settings result (made_of (made generated.seed generated.size) (K.told sink.old) (K.told sink.new))
         (length (made generated.seed generated.size) + 1) server.new sink.old sink.new (L.entries ledger.old) (L.entries ledger.new) }
 {
     let text = script(alloc, generated.seed, generated.size)?;
@@ -160,7 +158,7 @@ fn advance<K: Sink, L: Ledger, D: Decider>(
     requires numbered { server.old.count ≤ server.old.reader.place }
     requires room { server.old.reader.place + length server.old.reader.bytes + 1 < 2 ^ 64 }
     ensures still { D.may decider.new }
-    ensures advances { Advances D.decides result server.old server.new sink.old sink.new (K.told sink.old) (K.told sink.new) (L.entries ledger.old) (L.entries ledger.new) }
+    ensures advances { Advances result server.old server.new sink.old sink.new (K.told sink.old) (K.told sink.new) (L.entries ledger.old) (L.entries ledger.new) }
 {
     let stage = server.serve(alloc, sink, ledger, decider)?;
     Ok(stage)
@@ -172,12 +170,12 @@ fn take_more<S: Source>(source: &mut S, buf: &mut [u8], server: &mut Server) -> 
     requires settled { NoneSettled server.old.reader }
     requires buffer { length buf.old ≡ 65536 }
     requires room { server.old.reader.place + length server.old.reader.bytes + 65536 < 2 ^ 64 }
-    ensures ok { OnOk result ((decided : Decided) (s : SettingsValue) (e : Ends) (count : ℕ) (entries : List EntryValue)
-        → SoFar decided s e count (run_of server.old entries) → e.source_now ≡ S.told source.old
-        → SoFar decided s (at_source e (S.told source.new)) (count + 1) (run_of server.new entries)) }
-    ensures err { IfErr result (λ halt. (decided : Decided) (s : SettingsValue) (e : Ends) (count : ℕ) (entries : List EntryValue)
-        → SoFar decided s e count (run_of server.old entries) → e.source_now ≡ S.told source.old
-        → CutOff decided s halt (at_source e (S.told source.new)) (count + 1) (run_of server.new entries)) }
+    ensures ok { OnOk result ((s : SettingsValue) (e : Ends) (count : ℕ) (entries : List EntryValue)
+        → SoFar s e count (run_of server.old entries) → e.source_now ≡ S.told source.old
+        → SoFar s (at_source e (S.told source.new)) (count + 1) (run_of server.new entries)) }
+    ensures err { IfErr result (λ halt. (s : SettingsValue) (e : Ends) (count : ℕ) (entries : List EntryValue)
+        → SoFar s e count (run_of server.old entries) → e.source_now ≡ S.told source.old
+        → CutOff s halt (at_source e (S.told source.new)) (count + 1) (run_of server.new entries)) }
     ensures tally { (entries : List EntryValue) → Tallies server.old entries → Tallies server.new entries }
 {
     match source.more(buf) {
@@ -198,7 +196,7 @@ pub fn run<R: Threads + Sync, S: Source, K: Sink, G: Gate>(
     sink: &mut K,
     gate: &G,
 ) -> Ended
-    ensures ran { RanUnder every_stack (2 ^ 40) (map string_bytes words.now.items) (between (S.told source.old) (K.told sink.old) (S.told source.new) (K.told sink.new)) result }
+    ensures ran { RanUnder (2 ^ 40) (map string_bytes words.now.items) (between (S.told source.old) (K.told sink.old) (S.told source.new) (K.told sink.new)) result }
     ensures untouched { are_taken (map string_bytes words.now.items) ≡ false → (source.new ≡ source.old) × (sink.new ≡ sink.old) × (result.journal ≡ []) }
     ensures unasked { (g : GeneratedValue) → generated_of (map string_bytes words.now.items) ≡ Some g → source.new ≡ source.old }
     ensures silent { journal_text result.journal ≡ [] → sink.new ≡ sink.old }
@@ -217,7 +215,7 @@ pub fn run_within<R: Threads + Sync, S: Source, K: Sink, G: Gate>(
     gate: &G,
 ) -> Ended
     requires { budget ≤ 2 ^ 40 }
-    ensures ran { RanUnder every_stack budget (map string_bytes words.now.items) (between (S.told source.old) (K.told sink.old) (S.told source.new) (K.told sink.new)) result }
+    ensures ran { RanUnder budget (map string_bytes words.now.items) (between (S.told source.old) (K.told sink.old) (S.told source.new) (K.told sink.new)) result }
     ensures untouched { are_taken (map string_bytes words.now.items) ≡ false → (source.new ≡ source.old) × (sink.new ≡ sink.old) × (result.journal ≡ []) }
     ensures unasked { (g : GeneratedValue) → generated_of (map string_bytes words.now.items) ≡ Some g → source.new ≡ source.old }
     ensures silent { journal_text result.journal ≡ [] → sink.new ≡ sink.old }
@@ -244,7 +242,7 @@ pub fn run_through<R: Threads + Sync, S: Source, K: Sink, G: Gate, L: Ledger>(
     ledger: &mut L,
 ) -> Outcome
     requires { budget ≤ 2 ^ 40 }
-    ensures ran { RanThrough every_stack budget (map string_bytes words.now.items) (between (S.told source.old) (K.told sink.old) (S.told source.new) (K.told sink.new)) result
+    ensures ran { RanThrough budget (map string_bytes words.now.items) (between (S.told source.old) (K.told sink.old) (S.told source.new) (K.told sink.new)) result
         sink.old sink.new (L.entries ledger.old) (L.entries ledger.new) }
     ensures untouched { are_taken (map string_bytes words.now.items) ≡ false → (source.new ≡ source.old) × (sink.new ≡ sink.old) × (ledger.new ≡ ledger.old) }
     ensures unasked { (g : GeneratedValue) → generated_of (map string_bytes words.now.items) ≡ Some g → source.new ≡ source.old }

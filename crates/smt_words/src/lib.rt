@@ -1,8 +1,9 @@
 //! What the words of a command line ask for, exactly as `clap` means them. No words of
 //! help or of a version are known, nothing is printed, and the text of an error isn't made use of.
 //!
-//! `settings`: exactly what `clap` reads of the words as words of the program's command, with its
-//! ranges and defaults; refused only where `clap` refuses them.
+//! `Invocation::from_words`: exactly what `clap` reads of the words as words of the program's
+//! command, with its ranges and defaults, and the numbers of `gen`; refused only where `clap`
+//! refuses them.
 //!
 //! `words_of`: from what the system gives of the command line, all words, in order; refused exactly
 //! where the system says that a word isn't UTF-8.

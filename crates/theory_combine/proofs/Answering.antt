@@ -60,11 +60,11 @@ ready_kept p w h ready keeps = ready_held p w h ready keeps.held (ap (λ (b : St
 
 pub same_held : (p : Parts) (w : Progress) (h : Held) → h.closure.log.items ≡ w.held.closure.log.items → KeepsGrid w.held.bounds h.bounds → full_state p (record w { held = h }) ≡ full_state p w
 same_held p w h log keeps =
-    ap₂ (λ (ls : List Signed) (v : Variables). with_variables (state_of p.stack.now (table_of w.lost w.atoms.atoms) ls) v) log (variables_same w.lost w.held.bounds h.bounds keeps)
+    ap₂ (λ (ls : List Signed) (v : Variables). with_variables (state_of p.stack.now (table_of w.stopped_at w.atoms.atoms) ls) v) log (variables_same w.stopped_at w.held.bounds h.bounds keeps)
 
 pub same_kept : (p : Parts) (w : Progress) (h : Held) → KeepsHeld p.stack.now w.atoms.atoms w.held h → full_state p (record w { held = h }) ≡ full_state p w
 same_kept p w h keeps =
-    ap₂ (λ (ls : List Signed) (b : State). with_variables (state_of p.stack.now (table_of w.lost w.atoms.atoms) ls) (variables_of w.lost b)) keeps.log keeps.bounds
+    ap₂ (λ (ls : List Signed) (b : State). with_variables (state_of p.stack.now (table_of w.stopped_at w.atoms.atoms) ls) (variables_of w.stopped_at b)) keeps.log keeps.bounds
 
 -- the same forms under another name
 pub ready_forms : (p : Parts) (w : Progress) (f : List Known) → IsReady p w → f ≡ w.forms → IsReady p (record w { forms = f })
@@ -73,8 +73,8 @@ ready_forms p w f ready same = record {
   under_way = (subst (λ (g : List Known). AreForms p.stack.now.trees g) (sym same) ready.under_way.0, ready.under_way.1, ready.under_way.2, ready.under_way.3);
 }
 
--- no atom was lost
-pub to_ready : (p : Parts) (w : Progress) → AreParts p → IsProgress p w → w.lost ≡ None → IsReady p w
+-- the search hasn't stopped
+pub to_ready : (p : Parts) (w : Progress) → AreParts p → IsProgress p w → w.stopped_at ≡ None → IsReady p w
 to_ready p w parts h none = record {
   parts = parts;
   under_way = (
@@ -92,7 +92,7 @@ last_after p old new same ready h = record { ready = ready; last = subst IsLast 
 
 pub last_kept : (p : Parts) (w : Progress) (h : Held) → IsAtLast p w → KeepsHeld p.stack.now w.atoms.atoms w.held h → IsAtLast p (record w { held = h })
 last_kept p w h at_last keeps =
-    last_after p w (record w { held = h }) (ap (λ (ls : List Signed). state_of p.stack.now (table_of w.lost w.atoms.atoms) ls) keeps.log) (ready_kept p w h at_last.ready keeps) at_last
+    last_after p w (record w { held = h }) (ap (λ (ls : List Signed). state_of p.stack.now (table_of w.stopped_at w.atoms.atoms) ls) keeps.log) (ready_kept p w h at_last.ready keeps) at_last
 
 -- ---- the bounds are met
 
@@ -107,7 +107,7 @@ pub has_met : (p : Parts) (w : Progress) (h : Held) (c : Spending) (m : Met) →
     → IsMet h.bounds (state_of p.stack.now w.atoms.atoms h.closure.log.items) m → SpendsAll c m → HasMet p w (record w { held = h }) c m
 has_met p w h c m ready held log sums met spent = record {
   ready = ready_held p w h ready held sums;
-  same = ap (λ (ls : List Signed). state_of p.stack.now (table_of w.lost w.atoms.atoms) ls) log;
+  same = ap (λ (ls : List Signed). state_of p.stack.now (table_of w.stopped_at w.atoms.atoms) ls) log;
   met = subst (λ (o : Option ℕ). IsMet h.bounds (state_of p.stack.now (table_of o w.atoms.atoms) h.closure.log.items) m) (sym ready.under_way.2) met;
   spent = spent;
 }
@@ -123,7 +123,7 @@ step_before t b c d (StepEnded cause) less h = h
 pub went_full : (p : Parts) (old new : Progress) (b c : Spending) → Went p old new b c → WentOn p old new b c
 went_full p old new b c h = record {
   progress = h.0;
-  goes = goes_with (state p old) (state p new) (variables_of old.lost old.held.bounds) (variables_of new.lost new.held.bounds) b c h.1;
+  goes = goes_with (state p old) (state p new) (variables_of old.stopped_at old.held.bounds) (variables_of new.stopped_at new.held.bounds) b c h.1;
   pivots = h.2;
 }
 
@@ -133,11 +133,11 @@ module _ (A : Type 0) (Is : TheoryState → Spending → Spending → A → Type
   left_after old middle new b c a same h = record { went = went_after p old middle new b c same h.went; found = h.found }
 
   -- where nothing more is done, of what is held alone
-  pub left_now : (old new : Progress) (b : Spending) (a : A) → full_state p new ≡ full_state p old → new.lost ≡ None → Went p new new b b → Is (state_of p.stack.now new.atoms.atoms new.held.closure.log.items) b b a
+  pub left_now : (old new : Progress) (b : Spending) (a : A) → full_state p new ≡ full_state p old → new.stopped_at ≡ None → Went p new new b b → Is (state_of p.stack.now new.atoms.atoms new.held.closure.log.items) b b a
       → Leaves A Is p old new b b a
-  left_now old new b a same lost went is = record {
+  left_now old new b a same stopped_at went is = record {
     went = went_after p old new new b b same went;
-    found = subst (λ (o : Option ℕ). Is (state_of p.stack.now (table_of o new.atoms.atoms) new.held.closure.log.items) b b a) (sym lost) is;
+    found = subst (λ (o : Option ℕ). Is (state_of p.stack.now (table_of o new.atoms.atoms) new.held.closure.log.items) b b a) (sym stopped_at) is;
   }
 
   -- where units were spent before

@@ -109,7 +109,7 @@ module _ (k : SettledCase) (p : ℕ) (is : List ℕ) (m : IsMarked (marks k) p) 
   elements_differ : DistinctsAreByClass → (q : ℕ) → All (HasListed (full k) (Free q)) is → DifferHere
   elements_differ law q listed =
       law (stack k) (first k) (table k) (log k) k.closure (v k) p is (over k)
-      (All-contains (KeepsDistinct (stack k).trees (table k) (log k) k.closure) k.parts.wide_distincts.items p k.settled.apart listed_here)
+      (All-contains (KeepsDistinct (stack k).trees (table k) (log k) k.closure) k.parts.wide_distincts.items p k.settled.parts.apart listed_here)
       n (is_numbered k p m own) given (λ j d l. element_exact k _ q (marked j d l) (listed j d l))
 
   ints_differ : All (HasListed (full k) Ints) is → DifferHere

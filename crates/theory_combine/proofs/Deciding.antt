@@ -21,5 +21,5 @@ pub decided_at_last : PartsHoldOfEach → (p : Parts) (w : Progress) (sorts : Li
 decided_at_last of_each p w sorts law sorted at_last =
     let s : Stack = p.stack.now in
     let parts : AreParts p = at_last.ready.parts in
-    let last : IsLast (state_of s w.atoms.atoms w.held.closure.log.items) = last_whole s w.lost w.atoms.atoms w.held.closure.log.items at_last.ready.under_way.2 at_last.last in
+    let last : IsLast (state_of s w.atoms.atoms w.held.closure.log.items) = last_whole s w.stopped_at w.atoms.atoms w.held.closure.log.items at_last.ready.under_way.2 at_last.last in
     of_each (state_of s w.atoms.atoms w.held.closure.log.items).reading w.held.closure.log.items s p.marks.items sorts last.agreed.parts refl refl law parts.2 parts.0.size sorted

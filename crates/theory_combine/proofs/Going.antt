@@ -111,7 +111,7 @@ plain_of t = record { reading = t.reading; log = t.log; variables = no_variables
 pub went_same : (p : Parts) (w : Progress) (b : Spending) → IsProgress p w → length b.units ≤ b.bound → Went p w w b b
 went_same p w b is within = (is, goes_still (state p w) b within, λ e x. x)
 
--- where no atom is lost
+-- where the search hasn't stopped
 pub to_progress : (p : Parts) (w : Progress) → IsUnderWay p w → IsProgress p w
 to_progress p w u = (
   u.0,
@@ -135,7 +135,7 @@ held_under_way p w h u held sums =
 
 goes_held : (p : Parts) (w : Progress) (h : Held) (b : Spending) → h.closure.log.items ≡ w.held.closure.log.items → length b.units ≤ b.bound → Goes (state p w) (state p (record w { held = h })) b b
 goes_held p w h b log within =
-    subst (λ (ls : List Signed). Goes (state p w) (state_of p.stack.now (table_of w.lost w.atoms.atoms) ls) b b) (sym log) (goes_still (state p w) b within)
+    subst (λ (ls : List Signed). Goes (state p w) (state_of p.stack.now (table_of w.stopped_at w.atoms.atoms) ls) b b) (sym log) (goes_still (state p w) b within)
 
 not_kept : true ≡ false → ⊥
 not_kept e = cc
@@ -148,24 +148,24 @@ went_freely p w h b u held log sums free within =
 
 -- ---- atoms more
 
--- an atom couldn't be kept, and this was seen
-pub went_lost : (p : Parts) (w : Progress) (b c : Spending) (n : ℕ) (atoms : Atoms) (h : Held) (seen : Option RangeSeen) → AreShown p.stack.now (column_sums h.bounds) w.branches seen w.atoms.atoms → GrowsVariables w.held.bounds h.bounds → IsUnderWay p w
+-- the search stopped at an atom, and this was seen
+pub went_stopping : (p : Parts) (w : Progress) (b c : Spending) (n : ℕ) (atoms : Atoms) (h : Held) (seen : Option RangeSeen) → AreShown p.stack.now (column_sums h.bounds) w.branches seen w.atoms.atoms → GrowsVariables w.held.bounds h.bounds → IsUnderWay p w
     → n ≡ length w.atoms.atoms → take (length w.atoms.atoms) atoms.atoms ≡ w.atoms.atoms → length w.atoms.atoms ≤ length atoms.atoms → h.closure.log.items ≡ w.held.closure.log.items → length b.units ≤ b.bound → c ≡ b
-    → Went p w (record w { atoms = atoms; lost = Some n; held = h; seen = seen }) b c
-went_lost p w b c n atoms h seen shown grows u count front more log within spent =
-    let table : table_of w.lost w.atoms.atoms ≡ take n atoms.atoms =
+    → Went p w (record w { atoms = atoms; stopped_at = Some n; held = h; seen = seen }) b c
+went_stopping p w b c n atoms h seen shown grows u count front more log within spent =
+    let table : table_of w.stopped_at w.atoms.atoms ≡ take n atoms.atoms =
     ap (λ (o : Option ℕ). table_of o w.atoms.atoms) u.2 ∙ sym front ∙ ap (λ k. take k atoms.atoms) (sym count) in
     let same : state p w ≡ state_of p.stack.now (take n atoms.atoms) h.closure.log.items = ap₂ (λ (t : List Atom) (ls : List Signed). state_of p.stack.now t ls) table (sym log) in
     let still : Goes (state p w) (state_of p.stack.now (take n atoms.atoms) h.closure.log.items) b b = subst (λ (t : TheoryState). Goes (state p w) t b b) same (goes_still (state p w) b within) in
     let fewer : AreShown p.stack.now (column_sums h.bounds) w.branches seen (take n atoms.atoms) =
     subst (λ (t : List Atom). AreShown p.stack.now (column_sums h.bounds) w.branches seen t) (sym front ∙ ap (λ k. take k atoms.atoms) (sym count)) shown in
-    let new : Progress = record w { atoms = atoms; lost = Some n; held = h; seen = seen } in
+    let new : Progress = record w { atoms = atoms; stopped_at = Some n; held = h; seen = seen } in
     let keeps : KeepsPivots (full_state p w) (full_state p new) b b =
     λ e x. record {
       grid = x.grid;
-      of_log = record { bounds = said_over (table_of w.lost w.atoms.atoms) (take n atoms.atoms) w.held.closure.log.items h.closure.log.items x.grid table (sym log) x.of_log.bounds; variables = tt };
+      of_log = record { bounds = said_over (table_of w.stopped_at w.atoms.atoms) (take n atoms.atoms) w.held.closure.log.items h.closure.log.items x.grid table (sym log) x.of_log.bounds; variables = tt };
       lines =
-          lines_grown (table_of w.lost w.atoms.atoms) (take n atoms.atoms) (λ a k. subst (λ (t : List Atom). Contains t a) table k) (column_sums w.held.bounds) grows.more (column_sums h.bounds) (Some x.grid) b.units
+          lines_grown (table_of w.stopped_at w.atoms.atoms) (take n atoms.atoms) (λ a k. subst (λ (t : List Atom). Contains t a) table k) (column_sums w.held.bounds) grows.more (column_sums h.bounds) (Some x.grid) b.units
           grows.sums x.lines;
       basis = none_told (basis_along (first_basis (column_sums h.bounds)) (pivot_lines b.units)) h.bounds n;
     } in (

@@ -55,7 +55,7 @@ told_basis is b h i lt =
     let here : i < length (column_sums b) = subst (λ n. i < n) (sym (as_many b)) lt in
     sym (flag_at b i here) ∙ h (basic_flags b) refl i here
 
--- nothing is told of it once an atom was lost
+-- nothing is told of it once the search has stopped
 pub none_told : (is : ℕ → Bool) (b : State) (n : ℕ) → AreBasic is (variables_of (Some n) b)
 none_told is b n flags e = absurd (no_flags flags e)
 

@@ -6,7 +6,7 @@ use Rattle.smt_meaning.specs.declared.clauses.Atom.{Atom}
 use Rattle.atom_form.specs.AtomTableNumbers.{IsAt, AreApart}
 use Rattle.theory_combine.specs.Numbering.{table_of}
 
-pub beyond : (lost : Option ℕ) (atoms : List Atom) (n : ℕ) (a : Atom) → AreApart atoms → IsAt atoms n a → length (table_of lost atoms) ≤ n → Contains (table_of lost atoms) a → ⊥
+pub beyond : (stopped_at : Option ℕ) (atoms : List Atom) (n : ℕ) (a : Atom) → AreApart atoms → IsAt atoms n a → length (table_of stopped_at atoms) ≤ n → Contains (table_of stopped_at atoms) a → ⊥
 beyond None atoms n a apart at past there = let inside = at.0 in absurd (omega arith)
 beyond (Some k) atoms n a apart at past there =
     let i : ℕ = there.0 in

@@ -53,9 +53,9 @@ floor_in_range (negsuc m) n d p low high nin =
 
 -- ---- a last check
 
--- no atom is lost
-pub last_whole : (s : Stack) (lost : Option ℕ) (table : List Atom) (log : List Signed) → lost ≡ None → IsLast (state_of s (table_of lost table) log) → IsLast (state_of s table log)
-last_whole s lost table log e last = subst (λ (o : Option ℕ). IsLast (state_of s (table_of o table) log)) e last
+-- the search hasn't stopped
+pub last_whole : (s : Stack) (stopped_at : Option ℕ) (table : List Atom) (log : List Signed) → stopped_at ≡ None → IsLast (state_of s (table_of stopped_at table) log) → IsLast (state_of s table log)
+last_whole s stopped_at table log e last = subst (λ (o : Option ℕ). IsLast (state_of s (table_of o table) log)) e last
 
 module _ (s : Stack) (table : List Atom) (h : Held) (held : IsHeld s table h) (bounds : IsState h.bounds) (fits : AllFit h.bounds) (last : IsLast (state_of s table h.closure.log.items)) where
   met : FractionsHold → All (HoldsWhereEmpty table) h.closure.log.items → (a : Atom) → IsToldTrue (state_of s table h.closure.log.items).reading h.closure.log.items a

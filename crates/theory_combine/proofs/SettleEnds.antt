@@ -154,8 +154,7 @@ module _ (p : Parts) (w : Progress) (c : Congruence) (vs : List Value) (gs : Lis
       let check : IsFullCheck p.stack.now p.marks.items w.atoms.atoms w.held.closure.log.items = values.settled.check in
       record {
         values = values.settled;
-        xors = keeps.xors;
-        apart = keeps.apart;
+        parts = keeps;
         ints_apart = ints_apart p vs check.sorts gs check.sorted (given.exact check.sorts check.sorted) w c values.settled keeps.apart tellable;
         listed = at_last.ready.parts.5;
       }

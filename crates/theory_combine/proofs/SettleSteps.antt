@@ -146,7 +146,7 @@ module _ (p : Parts) (w : Progress) (at_last : IsAtLast p w) where
     sorted = sorted;
     decided = decided_at_last of_each p w sorts law sorted at_last;
     consistent = held.told.consistent;
-    full = (last_whole p.stack.now w.lost w.atoms.atoms w.held.closure.log.items at_last.ready.under_way.2 at_last.last).full;
+    full = (last_whole p.stack.now w.stopped_at w.atoms.atoms w.held.closure.log.items at_last.ready.under_way.2 at_last.last).full;
   }
 
   -- listed values are settled, which are of their sorts, fit the log, are the classes of elements, and give Ints the numbers of their forms

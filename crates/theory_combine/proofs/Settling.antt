@@ -148,7 +148,7 @@ told_is log n false says (inr told) = told
 
 module _ (p : Parts) (w : Progress) (at_last : IsAtLast p w) where
   last : IsLast (state_of p.stack.now w.atoms.atoms w.held.closure.log.items)
-  last = last_whole p.stack.now w.lost w.atoms.atoms w.held.closure.log.items at_last.ready.under_way.2 at_last.last
+  last = last_whole p.stack.now w.stopped_at w.atoms.atoms w.held.closure.log.items at_last.ready.under_way.2 at_last.last
 
   held : IsHeld p.stack.now w.atoms.atoms w.held
   held = at_last.ready.under_way.1.held

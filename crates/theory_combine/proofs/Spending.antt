@@ -172,7 +172,7 @@ went_by_units p w h b c room m u held log sums are was now rest spends all keeps
     let lines : pivot_lines c.units ≡ pivot_lines b.units ++ m.lines.items = ap pivot_lines all ∙ lines_pivoted b.units m.lines.items in
     let before : ℕ → Bool = basis_along (first_basis (column_sums w.held.bounds)) (pivot_lines b.units) in (
       to_progress p (record w { held = h }) (held_under_way p w h u held sums),
-      subst (λ (ls : List Signed). Goes (state p w) (state_of p.stack.now (table_of w.lost w.atoms.atoms) ls) b c) (sym log) (goes_pivots (state p w) b c m.lines.items spends (omega (arith, within, rest)) keeps),
+      subst (λ (ls : List Signed). Goes (state p w) (state_of p.stack.now (table_of w.stopped_at w.atoms.atoms) ls) b c) (sym log) (goes_pivots (state p w) b c m.lines.items spends (omega (arith, within, rest)) keeps),
       subst (λ (o : Option ℕ). KeepsPivots (full_of p.stack.now o w.atoms.atoms w.held.closure.log.items w.held.bounds) (full_of p.stack.now o w.atoms.atoms h.closure.log.items h.bounds) b c) (sym u.2)
           (λ e x. record {
             grid = plain_grid h.bounds;
@@ -188,12 +188,12 @@ went_by_units p w h b c room m u held log sums are was now rest spends all keeps
 -- memory was wanting for one of them, and nothing more is held
 pub went_unspent : (p : Parts) (w : Progress) (h : Held) (b c : Spending) (room n : ℕ) (m : Meeting) → IsUnderWay p w → IsHeld p.stack.now w.atoms.atoms h → h.closure.log.items ≡ w.held.closure.log.items
     → column_sums h.bounds ≡ column_sums w.held.bounds → ArePivotsOf w.held.bounds h.bounds w.atoms.atoms true room m → HasBoundsOf w.atoms.atoms w.held.closure.log.items w.held.bounds → length b.units + room ≡ b.bound
-    → SpendsPivots m.lines.items b c → n ≡ length w.atoms.atoms → b.keeps_lines ≡ true → Went p w (record w { held = h; lost = Some n }) b c
+    → SpendsPivots m.lines.items b c → n ≡ length w.atoms.atoms → b.keeps_lines ≡ true → Went p w (record w { held = h; stopped_at = Some n }) b c
 went_unspent p w h b c room n m u held log sums are was rest spends count keeps =
     let within : length m.lines.items ≤ room = are.within in
     let first : List Line = take spends.count m.lines.items in
     let atoms : w.atoms.atoms ≡ take n w.atoms.atoms = sym (ap (λ k. take k w.atoms.atoms) count ∙ take_all w.atoms.atoms) in
-    let table : table_of w.lost w.atoms.atoms ≡ take n w.atoms.atoms = ap (λ (o : Option ℕ). table_of o w.atoms.atoms) u.2 ∙ atoms in
+    let table : table_of w.stopped_at w.atoms.atoms ≡ take n w.atoms.atoms = ap (λ (o : Option ℕ). table_of o w.atoms.atoms) u.2 ∙ atoms in
     let same : state p w ≡ state_of p.stack.now (take n w.atoms.atoms) h.closure.log.items = ap₂ (λ (t : List Atom) (ls : List Signed). state_of p.stack.now t ls) table (sym log) in
     let shown : AreShown p.stack.now (column_sums h.bounds) w.branches w.seen (take n w.atoms.atoms) =
     subst (λ (t : List Atom). AreShown p.stack.now (column_sums h.bounds) w.branches w.seen t) atoms (subst (λ xs. AreShown p.stack.now xs w.branches w.seen w.atoms.atoms) (sym sums) u.3) in
@@ -201,7 +201,7 @@ went_unspent p w h b c room n m u held log sums are was rest spends count keeps 
     let before : ℕ → Bool = basis_along (first_basis (column_sums w.held.bounds)) (pivot_lines b.units) in (
       (u.0, omega (arith, count), shown),
       subst (λ (t : TheoryState). Goes (state p w) t b c) same (goes_pivots (state p w) b c m.lines.items spends (omega (arith, within, rest)) keeps),
-      subst (λ (o : Option ℕ). KeepsPivots (full_of p.stack.now o w.atoms.atoms w.held.closure.log.items w.held.bounds) (full_state p (record w { held = h; lost = Some n })) b c) (sym u.2)
+      subst (λ (o : Option ℕ). KeepsPivots (full_of p.stack.now o w.atoms.atoms w.held.closure.log.items w.held.bounds) (full_state p (record w { held = h; stopped_at = Some n })) b c) (sym u.2)
           (λ e x.
           (let whole = are.pivots refl before (told_basis before w.held.bounds x.basis) in
           let part : LeadsWithin (column_sums w.held.bounds) (IsBoundOf (Contains w.atoms.atoms)) before (plain_grid w.held.bounds) (plain_grid h.bounds) first =

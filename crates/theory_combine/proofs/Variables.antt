@@ -63,6 +63,6 @@ leaves_next s marks b d k kept h one = λ p lt l. elim (cases_lt p k) [
       subst (HasLeaf d.bounds.columns) here (one (subst (IsMarkedLeaf s marks) (sym here) l))
 ]
 
--- where no atom is lost, each has one
+-- where the search hasn't stopped, each has one
 pub has_variables : (p : Parts) (w : Progress) → IsUnderWay p w → (q : ℕ) → IsIntLeaf p.stack.now p.marks.items q → HasLeaf w.held.bounds.bounds.columns q
 has_variables p w u q l = u.1.variables q (record { within = l.within; marked = l.marked; is_int = l.is_int; leaf = l.leaf })

@@ -77,7 +77,7 @@ module _ (k : SettledCase) where
       let marked : All (IsMarked (marks k)) (i ∷ is) = arguments_marked (full k) p Xor (i ∷ is) m n in
       let x : IsWideXor (stack k).trees p (i ∷ is) = record { tree = n.tree; earlier = n.arguments; wide = is_wide (length (i ∷ is)) wide } in
       let keeps : KeepsXorAt (stack k).trees (table k) (log k) p =
-      All-contains (KeepsXorAt (stack k).trees (table k) (log k)) k.parts.wide_xors.items p k.settled.xors (k.are_parts.3 p (i ∷ is) m x) in
+      All-contains (KeepsXorAt (stack k).trees (table k) (log k)) k.parts.wide_xors.items p k.settled.parts.xors (k.are_parts.3 p (i ∷ is) m x) in
       let even : xor (truth_of (v k p)) (is_odd (truths (v k) (i ∷ is))) ≡ false =
       keeps (i ∷ is) (truths (v k) (p ∷ i ∷ is)) x
       (all_tell (p ∷ i ∷ is) (All-cons (IsMarked (marks k)) p (i ∷ is) m marked) (All-cons (HasListed (full k) Truths) p (i ∷ is) so.1 so.0)) in

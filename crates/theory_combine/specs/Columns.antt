@@ -42,13 +42,13 @@ HaveVariables s marks b = (p : ℕ) → IsMarkedLeaf s marks p → HasLeaf b.bou
 abbrev pub basic_flags : State → List Bool
 basic_flags b = map (is_basic b.bounds.table.rows) (range_with_len 0 (length (column_sums b)))
 
--- what is told of the variables: once an atom was lost, no longer which are basic, nor their values and rows
+-- what is told of the variables: once the search has stopped, no longer which are basic, nor their values and rows
 abbrev pub variables_of : Option ℕ → State → Variables
-variables_of lost b = record { sums = column_sums b; basic = by_loss lost; grid = grid_by lost }
+variables_of stopped_at b = record { sums = column_sums b; basic = basic_by stopped_at; grid = grid_by stopped_at }
   where
-    by_loss : Option ℕ → Option (List Bool)
-    by_loss None = Some (basic_flags b)
-    by_loss (Some n) = None
+    basic_by : Option ℕ → Option (List Bool)
+    basic_by None = Some (basic_flags b)
+    basic_by (Some n) = None
 
     grid_by : Option ℕ → Option Grid
     grid_by None = Some (unbounded (plain_grid b))

@@ -11,6 +11,7 @@ pub mod Kept
 pub mod Last
 pub mod Settled
 pub mod Settling
+pub mod ByValue
 pub mod Clashing
 pub mod Numbering
 pub mod Pairs

@@ -16,7 +16,7 @@ use Rattle.theory_combine.specs.declared.numbering.NewAtom.TheVariants.{Equality
 use Rattle.theory_combine.specs.Columns.{HaveVariables}
 use Rattle.theory_combine.specs.Held.{IsHeld}
 
--- the atoms that are told of: all, or those before one that couldn't be kept
+-- the atoms that are told of: all, or those that had numbers when the search stopped
 abbrev pub table_of : Option ℕ → List Atom → List Atom
 table_of None atoms = atoms
 table_of (Some n) atoms = take n atoms
@@ -28,7 +28,7 @@ pub record IsWhole (s : Stack) (marks : List Bool) (atoms : Atoms) (h : Held) : 
   pub held : IsHeld s atoms.atoms h
   pub variables : HaveVariables s marks h.bounds
 
--- where an atom couldn't be kept, nothing more is held
+-- where the search has stopped, nothing more is held
 abbrev pub IsNumbered : Stack → List Bool → Option ℕ → Atoms → Held → Type 0
 IsNumbered s marks None atoms h = IsWhole s marks atoms h
 IsNumbered s marks (Some n) atoms h = n ≤ length atoms.atoms

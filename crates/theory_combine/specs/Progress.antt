@@ -29,22 +29,22 @@ AreParts p =
 
 -- the atoms that are told of, and what was told
 abbrev pub state : Parts → Progress → TheoryState
-state p w = state_of p.stack.now (table_of w.lost w.atoms.atoms) w.held.closure.log.items
+state p w = state_of p.stack.now (table_of w.stopped_at w.atoms.atoms) w.held.closure.log.items
 
 -- and the variables of the bounds
 abbrev pub full_state : Parts → Progress → TheoryState
-full_state p w = record { reading = (state p w).reading; log = (state p w).log; variables = variables_of w.lost w.held.bounds }
+full_state p w = record { reading = (state p w).reading; log = (state p w).log; variables = variables_of w.stopped_at w.held.bounds }
 
 -- linear forms of the terms, what is numbered and held, and what can be shown of it
 abbrev pub IsProgress : Parts → Progress → Type 0
 IsProgress p w =
-    AreForms p.stack.now.trees w.forms × IsNumbered p.stack.now p.marks.items w.lost w.atoms w.held
-    × AreShown p.stack.now (column_sums w.held.bounds) w.branches w.seen (table_of w.lost w.atoms.atoms)
+    AreForms p.stack.now.trees w.forms × IsNumbered p.stack.now p.marks.items w.stopped_at w.atoms w.held
+    × AreShown p.stack.now (column_sums w.held.bounds) w.branches w.seen (table_of w.stopped_at w.atoms.atoms)
 
--- and no atom was lost
+-- and the search hasn't stopped
 abbrev pub IsUnderWay : Parts → Progress → Type 0
 IsUnderWay p w =
-    AreForms p.stack.now.trees w.forms × IsWhole p.stack.now p.marks.items w.atoms w.held × (w.lost ≡ None)
+    AreForms p.stack.now.trees w.forms × IsWhole p.stack.now p.marks.items w.atoms w.held × (w.stopped_at ≡ None)
     × AreShown p.stack.now (column_sums w.held.bounds) w.branches w.seen w.atoms.atoms
 
 -- what a call that may spend units leaves

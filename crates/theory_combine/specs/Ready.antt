@@ -1,5 +1,5 @@
--- What a call is given where no atom was lost, and what it leaves with its answer.
-use Rattle.std.specs.Prelude.{◌≡◌, ◌<◌, ℕ, Bool, List, length}
+-- What a call is given where the search hasn't stopped, and what it leaves with its answer.
+use Rattle.std.specs.Prelude.{◌≡◌, ◌<◌, ℕ, List, length}
 use Rattle.smt_meaning.specs.declared.clauses.Atom.{Atom}
 use Rattle.smt_meaning.specs.Atoms.{at_most_atom}
 use Rattle.smt_meaning.specs.StackCommand.{Stack}
@@ -13,21 +13,19 @@ use Rattle.search_port.specs.declared.theory.Inferred.{Inferred}
 use Rattle.search_port.specs.declared.theory.Checked.{Checked}
 use Rattle.model_build.specs.declared.given.Clash.{Clash}
 use Rattle.theory_combine.specs.declared.held.Met.{Met}
-use Rattle.theory_combine.specs.declared.parts.Pair.{Pair}
 use Rattle.theory_combine.specs.declared.parts.Parts.{Parts}
 use Rattle.theory_combine.specs.declared.parts.Progress.{Progress}
 use Rattle.theory_combine.specs.declared.step.Step.{Step}
 use Rattle.sum_bounds.specs.Bounds.{AreWhole}
 use Rattle.theory_combine.specs.Held.{AllFit, IsMet}
 use Rattle.theory_combine.specs.Last.{IsLast}
-use Rattle.theory_combine.specs.Pairs.{IsWanted}
 use Rattle.theory_combine.specs.Pivots.{SpendsAll}
 use Rattle.theory_combine.specs.Progress.{full_state, state, AreParts, IsProgress, IsUnderWay, Went}
 use Rattle.theory_combine.specs.Steps.{IsStep}
 
 -- ---- what is given
 
--- no atom was lost
+-- the search hasn't stopped
 pub record IsReady (p : Parts) (w : Progress) : Type 0 where
   pub parts : AreParts p
   pub under_way : IsUnderWay p w
@@ -50,11 +48,6 @@ IsClashIn s c = (c.first < length s.trees) × (c.second < length s.trees)
 -- the bound that one term is at most another has this number
 abbrev pub IsAtMostAt : List Tree → List Atom → ℕ → ℕ → ℕ → Type 0
 IsAtMostAt trees atoms left right n = IsAt atoms n (at_most_atom trees (tree_at trees left) (tree_at trees right))
-
--- a pair whose equality is to get a number, and whose first bound has this one
-pub record HasLow (s : Stack) (marks : List Bool) (atoms : List Atom) (p : Pair) (low : ℕ) : Type 0 where
-  pub wanted : IsWanted s marks atoms p
-  pub at : IsAtMostAt s.trees atoms p.left p.right low
 
 -- ---- what is left
 

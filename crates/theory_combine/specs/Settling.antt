@@ -88,11 +88,10 @@ pub record KeepsParts (p : Parts) (w : Progress) (c : Congruence) : Type 0 where
   pub xors : KeepsXors p.stack.now.trees w.atoms.atoms w.held.closure.log.items p.wide_xors.items
   pub apart : All (KeepsDistinct p.stack.now.trees w.atoms.atoms w.held.closure.log.items c) p.wide_distincts.items
 
--- the values are settled, each wide `xor` has the truth that it makes of those of its arguments, and the arguments of each asserted wide `distinct` differ
+-- the values are settled, wide `xor`s and `distinct`s are kept, the Ints of each true wide `distinct` have different numbers, and each asserted one is listed
 pub record IsSettledCheck (p : Parts) (w : Progress) (c : Congruence) (vs : List Value) : Type 0 where
   pub values : AreSettledValues p w c vs
-  pub xors : KeepsXors p.stack.now.trees w.atoms.atoms w.held.closure.log.items p.wide_xors.items
-  pub apart : All (KeepsDistinct p.stack.now.trees w.atoms.atoms w.held.closure.log.items c) p.wide_distincts.items
+  pub parts : KeepsParts p w c
   pub ints_apart : All (KeepsInts p w vs) p.wide_distincts.items
   pub listed : AreAssertedDistincts p.stack.now p.wide_distincts.items
 

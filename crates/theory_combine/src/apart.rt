@@ -1,8 +1,9 @@
 //! Numbers for Ints in which those have numbers of their own that tell applications, or the arguments of a wide `distinct`, apart. They guide the search for a model, and no contract speaks of them.
-ghost use Rattle.std.specs.Prelude.{◌≡◌, length, IfOk};
+ghost use Rattle.std.specs.Prelude.{◌≡◌, length};
 
 use crate::held::{Held, leads};
 use crate::leaves::is_leaf_head;
+use crate::parts::Parts;
 use closure_log::distinct_arguments;
 use scope_stack::Stack;
 use smt_meaning::{Head, TermId};
@@ -99,20 +100,17 @@ fn numerals(alloc: Global, store: &TermStore, wanted: &[bool]) -> Result<Vec<i12
 
 /// Numbers by term, where the values of the bounds are whole: moved within all bounds, so that terms have numbers of their own that tell applications or arguments of wide `distinct`s apart, as far as that is found. An `Err` is for want of memory.
 pub(crate) fn moved_numbers(
-    alloc: Global,
-    stack: &Stack,
-    marks: &[bool],
+    parts: &Parts<'_>,
     held: &Held,
-    wide_distincts: &[TermId],
 ) -> Result<Option<Vec<i128>>, AllocError> {
     if leads(held) {
         return Ok(None);
     }
-    let store = stack.terms();
-    let mut wanted = vec![in alloc; false; store.len() as usize]?;
-    mark_applications(&mut wanted, store, marks);
-    mark_distincts(&mut wanted, stack, wide_distincts);
+    let store = parts.stack.terms();
+    let mut wanted = vec![in parts.alloc; false; store.len() as usize]?;
+    mark_applications(&mut wanted, store, &parts.marks);
+    mark_distincts(&mut wanted, parts.stack, &parts.wide_distincts);
     mark_leaves(&mut wanted, store);
-    let taken = numerals(alloc, store, &wanted)?;
-    held.bounds.spread(alloc, &wanted, &taken)
+    let taken = numerals(parts.alloc, store, &wanted)?;
+    held.bounds.spread(parts.alloc, &wanted, &taken)
 }

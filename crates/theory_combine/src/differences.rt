@@ -21,7 +21,7 @@ struct Mark {
 
 /// The differences told.
 #[derive(Drop)]
-pub struct Differences {
+pub(crate) struct Differences {
     graph: DifferenceGraph,
     /// By place in the log.
     marks: Vec<Mark>,

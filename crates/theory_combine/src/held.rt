@@ -33,7 +33,7 @@ use std::alloc::{AllocError, Global};
 
 /// The literals told, and what they say of terms and of sums.
 #[derive(Drop)]
-pub struct Held {
+pub(crate) struct Held {
     pub closure: ClosureLog,
     pub bounds: BoundLog,
     pub scan: Scan,
@@ -42,7 +42,7 @@ pub struct Held {
 
 /// What guides the search, of which no contract speaks.
 #[derive(Drop)]
-pub struct Looked {
+pub(crate) struct Looked {
     /// The atom after the one whose bound was looked at last.
     pub next: usize,
     pub differences: Differences,

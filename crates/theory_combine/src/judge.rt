@@ -5,7 +5,7 @@ ghost use Rattle.search_port.specs.Spending.{Spending};
 ghost use Rattle.sum_bounds.specs.Bounds.{AreWhole, IsFirstIn};
 ghost use Rattle.closure_log.specs.Seen.{state_of};
 ghost use Rattle.theory_combine.specs.declared.held.Met.TheVariants.{Fits};
-ghost use Rattle.theory_combine.specs.Found.{IsFound, IsClashFound};
+ghost use Rattle.theory_combine.specs.Found.{IsClashFound};
 ghost use Rattle.theory_combine.specs.Held.{AllFit};
 ghost use Rattle.theory_combine.specs.Progress.{state, AreParts, Went};
 ghost use Rattle.theory_combine.specs.Steps.{IsStep, StepInfers};
@@ -83,21 +83,6 @@ fn wanted_pair(
     Ok(next_pair(parts, pairs, atoms))
 }
 
-/// Looks for a model with the values that there are.
-fn model_of(parts: &Parts<'_>, progress: &Progress) -> Result<Found, AllocError>
-    requires { IsReady parts.now progress.now }
-    ensures { IfOk result (IsFound parts.now.stack.now progress.now.atoms.atoms progress.now.held.closure.log.items) }
-{
-    find_model(
-        parts.alloc,
-        parts.stack,
-        &parts.marks,
-        &progress.atoms,
-        &progress.held,
-        &parts.wide_distincts,
-    )
-}
-
 /// Goes on from values that meet all bounds and are whole, and make no model: with a pair that is wanted, or by the slow way.
 fn go_on_from(
     parts: &Parts<'_>,
@@ -128,7 +113,7 @@ fn judge_values(parts: &Parts<'_>, progress: &mut Progress, budget: &mut Budget)
     if let Some(leaf) = progress.held.bounds.first_fraction() {
         return checked(make_whole(parts, progress, budget, leaf));
     }
-    match model_of(parts, progress) {
+    match find_model(parts, progress) {
         Err(_) => Checked::Ended(Cause::Memory),
         Ok(Found::Fine(tables)) => Checked::Fine(tables),
         Ok(found) => go_on_from(parts, progress, budget, found),
@@ -192,7 +177,7 @@ fn judge_numbers(parts: &Parts<'_>, progress: &mut Progress, budget: &mut Budget
     ensures { Checks parts.now progress.old progress.new budget.old budget.new result }
 {
     stays(parts, progress, budget);
-    match model_of(parts, progress) {
+    match find_model(parts, progress) {
         Err(_) => Checked::Ended(Cause::Memory),
         Ok(Found::Fine(tables)) => Checked::Fine(tables),
         Ok(found) => judge_further(parts, progress, budget, found),

@@ -1,16 +1,16 @@
 //! The theory of equality and of whole numbers together, as a search asks it.
 //!
-//! `Combined`: these calls over what they keep. At the end it shows its branches, with which each of
-//! its atoms is one of the check, and where a number left the range, if that ended the search.
+//! `Combined`: the calls of `Theory` over what they keep. At the end it shows its branches, with which
+//! each of its atoms is one of the check, and where a number left the range, if that ended the search.
 //!
 //! What is done at each call: literals are told to a closure of congruence and to bounds of sums,
 //! atoms get numbers on the way, and a model of both is evaluated before it is given.
 //!
-//! `begin`, `tell`, `undo_to`: each literal is told to the closure and to the bounds, and taken
+//! `new`, `assert`, `undo_to`: each literal is told to the closure and to the bounds, and taken
 //! back exactly. What either breaks is a clause that is true under every interpretation and false
 //! in what was told, as is what a row shows of whole numbers before a branch.
 //!
-//! `look`, `check`: a new atom costs a unit: a bound below a value that isn't whole; the equality
+//! `propagate`, `final_check`: a new atom costs a unit: a bound below a value that isn't whole; the equality
 //! of two Ints that two applications differ by, or that have one value where a wide `distinct` tells
 //! them apart, after both bounds of the difference, to which clauses tie it. A bound of the empty sum comes with its truth value.
 //!
@@ -27,13 +27,14 @@
 //! A model is given only where, evaluated, it makes every literal told true.
 //!
 //! Where values that are whole and meet all bounds give none, exact values decide, in which each
-//! operator holds (`settle`): they are a model, or a clause is false, a pair of Ints gets its
-//! number, or a number leaves the range. Memory is wanting only where an allocation fails.
+//! operator holds: they are a model, or a clause is false, a pair of Ints gets its number, or a
+//! number leaves the range. That memory is wanting only where an allocation fails is how it is
+//! written; no clause says it.
 //!
 //! Of each branch, at a value that meets all that stands, the row is kept, so that each atom is one
 //! of the check with the branches so far.
 //!
-//! `show`, `written`: where a number left the range, that is shown: in folding the difference of
+//! `show`: where a number left the range, that is shown: in folding the difference of
 //! two Int parts, in a step of the values or a bound that was to be taken in, told or numbered, in
 //! an argument of an application at the leaves' values, or in a model whose evaluation leaves it.
 #![tactic(auto)]
@@ -69,11 +70,5 @@ mod values;
 mod wanted;
 mod xors;
 
-pub use calls::{check, look, tell, undo_to};
-pub use differences::Differences;
 pub use errors::BoundError;
-pub use held::{Held, Looked};
-pub use parts::{Pair, Parts, Progress};
-pub use showing::{show, written};
-pub use start::{Begun, begin};
 pub use theory::Combined;

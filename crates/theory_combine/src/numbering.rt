@@ -106,7 +106,7 @@ pub(crate) fn number_new(
     requires of_stack { IsNew parts.now.stack.now parts.now.marks.items atom.now }
     requires to_show { IsToShow parts.now.stack.now progress.old.branches (atom_of atom.now) }
     ensures went { Went parts.now progress.old progress.new budget.old budget.new }
-    ensures kept { OnOk result (progress.new.lost ≡ None) }
+    ensures kept { OnOk result (progress.new.stopped_at ≡ None) }
     ensures added { OnOk result (progress.new.atoms.atoms ≡ progress.old.atoms.atoms ++ atom_of atom.now ∷ []) }
     ensures spent { OnOk result (length budget.new.units ≡ length budget.old.units + 1) }
     ensures ended { IfErr result (λ e. EndsBy (state parts.now progress.new) budget.new e) }
@@ -122,13 +122,13 @@ pub(crate) fn number_new(
     match added {
         Err(error) => {
             progress.seen = seen_of(error);
-            progress.lost = Some(count);
+            progress.stopped_at = Some(count);
             Err(Cause::Memory)
         }
         Ok(()) => match budget.spend(Spent::Numbered(count)) {
             Ok(()) => Ok(()),
             Err(_) => {
-                progress.lost = Some(count);
+                progress.stopped_at = Some(count);
                 Err(Cause::Memory)
             }
         },

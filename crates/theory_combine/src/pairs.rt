@@ -1,5 +1,5 @@
 //! Equalities of Ints that get numbers, after both bounds of the difference.
-ghost use Rattle.std.specs.Prelude.{◌≡◌, ℕ, ◌<◌, List, length, true, false, All, Contains, IfSome};
+ghost use Rattle.std.specs.Prelude.{◌≡◌, ℕ, ◌<◌, List, length, true, false, All, Contains, IfSome, IfOk, IfErr, OnOk};
 ghost use Rattle.fraction128.specs.Whole.{InRange};
 ghost use Rattle.smt_meaning.specs.declared.clauses.Atom.TheVariants.{AtMost, Same};
 ghost use Rattle.smt_meaning.specs.Term.{Tree, tree_at};
@@ -12,7 +12,7 @@ ghost use Rattle.bound_log.specs.Growth.{IsProper};
 ghost use Rattle.theory_combine.specs.Pairs.{IsFit, IsRefused, IsSought, IsWanted};
 ghost use Rattle.theory_combine.specs.Progress.{AreParts};
 ghost use Rattle.theory_combine.specs.Shown.{IsLeft};
-ghost use Rattle.theory_combine.specs.Ready.{HasLow, IsAtMostAt, IsReady, Steps};
+ghost use Rattle.theory_combine.specs.Ready.{IsAtMostAt, IsReady, Steps};
 
 use crate::leaves::{is_int, is_marked_place};
 use crate::numbering::{NewAtom, NewBound, number_new};
@@ -29,24 +29,13 @@ use smt_meaning::{RangeSeen, Summand, TermId};
 
 /// The bound that one term is at most another.
 #[derive(Drop)]
-pub(crate) enum Sought {
+enum Sought {
     /// It has this number.
     Number(u32),
     /// It has none.
     New(NewBound),
     /// Folding it leaves the range, or memory is wanting.
     Outside(DifferenceError),
-}
-
-/// The pair with its terms exchanged.
-pub(crate) fn other_way(pair: Pair) -> Pair
-    ensures left { result.left ≡ pair.right }
-    ensures right { result.right ≡ pair.left }
-{
-    Pair {
-        left: pair.right,
-        right: pair.left,
-    }
 }
 
 /// Whether the equality of two terms has a number, in one order or the other.
@@ -91,7 +80,7 @@ fn look_up(atoms: &AtomNumbers, sum: Vec<Summand>, threshold: i128) -> Sought
 }
 
 /// The bound that one term is at most another.
-pub(crate) fn seek(
+fn seek(
     parts: &Parts<'_>,
     forms: &mut LinearForms,
     atoms: &AtomNumbers,
@@ -123,7 +112,8 @@ fn tie(
     high: u32,
 ) -> Step
     requires ready { IsReady parts.now progress.old }
-    requires low { HasLow parts.now.stack.now parts.now.marks.items progress.old.atoms.atoms pair low }
+    requires wanted { IsWanted parts.now.stack.now parts.now.marks.items progress.old.atoms.atoms pair }
+    requires low { IsAtMostAt parts.now.stack.now.trees progress.old.atoms.atoms pair.left pair.right low }
     requires high { IsAtMostAt parts.now.stack.now.trees progress.old.atoms.atoms pair.right pair.left high }
     ensures { Steps parts.now progress.old progress.new budget.old budget.new result }
 {
@@ -205,7 +195,7 @@ fn seen_of(
 }
 
 /// Doesn't go on where folding the bound of two Int parts is refused.
-pub(crate) fn stop_at_pair(
+fn stop_at_pair(
     parts: &Parts<'_>,
     progress: &mut Progress,
     budget: &Budget,
@@ -222,32 +212,32 @@ pub(crate) fn stop_at_pair(
     stop_seeing(parts, progress, budget, seen)
 }
 
-/// Goes on with a pair whose first bound has a number.
-fn go_on_above(
+/// The number of the bound that one Int is at most another. An `Err` is how the search goes on where it has none: the bound gets one, or folding it is refused.
+pub(crate) fn bound_number(
     parts: &Parts<'_>,
     progress: &mut Progress,
     budget: &mut Budget,
-    pair: Pair,
-    low: u32,
-) -> Step
+    left: TermId,
+    right: TermId,
+) -> Result<u32, Step>
     requires ready { IsReady parts.now progress.old }
-    requires low { HasLow parts.now.stack.now parts.now.marks.items progress.old.atoms.atoms pair low }
-    ensures { Steps parts.now progress.old progress.new budget.old budget.new result }
+    requires left { IsFit parts.now.stack.now parts.now.marks.items left }
+    requires right { IsFit parts.now.stack.now parts.now.marks.items right }
+    ensures ok { IfOk result (IsAtMostAt parts.now.stack.now.trees progress.old.atoms.atoms left right) }
+    ensures same { OnOk result (progress.new ≡ progress.old) }
+    ensures unspent { OnOk result (budget.new ≡ budget.old) }
+    ensures err { IfErr result (Steps parts.now progress.old progress.new budget.old budget.new) }
 {
     flat_says_the_same();
     bounds_are_over_leaves();
     parts.stack.laws();
-    let sought = seek(
-        parts,
-        &mut progress.forms,
-        &progress.atoms,
-        pair.right,
-        pair.left,
-    );
-    match sought {
-        Sought::Number(high) => tie(parts, progress, budget, pair, low, high),
-        Sought::New(bound) => go_on_with_bound(parts, progress, budget, bound),
-        Sought::Outside(error) => stop_at_pair(parts, progress, budget, other_way(pair), error),
+    match seek(parts, &mut progress.forms, &progress.atoms, left, right) {
+        Sought::Number(number) => Ok(number),
+        Sought::New(bound) => Err(go_on_with_bound(parts, progress, budget, bound)),
+        Sought::Outside(error) => {
+            let pair = Pair { left, right };
+            Err(stop_at_pair(parts, progress, budget, pair, error))
+        }
     }
 }
 
@@ -262,19 +252,11 @@ pub(crate) fn go_on_with_pair(
     requires wanted { IsWanted parts.now.stack.now parts.now.marks.items progress.old.atoms.atoms pair }
     ensures { Steps parts.now progress.old progress.new budget.old budget.new result }
 {
-    flat_says_the_same();
-    bounds_are_over_leaves();
-    parts.stack.laws();
-    let sought = seek(
-        parts,
-        &mut progress.forms,
-        &progress.atoms,
-        pair.left,
-        pair.right,
-    );
-    match sought {
-        Sought::Number(low) => go_on_above(parts, progress, budget, pair, low),
-        Sought::New(bound) => go_on_with_bound(parts, progress, budget, bound),
-        Sought::Outside(error) => stop_at_pair(parts, progress, budget, pair, error),
+    match bound_number(parts, progress, budget, pair.left, pair.right) {
+        Err(step) => step,
+        Ok(low) => match bound_number(parts, progress, budget, pair.right, pair.left) {
+            Err(step) => step,
+            Ok(high) => tie(parts, progress, budget, pair, low, high),
+        },
     }
 }

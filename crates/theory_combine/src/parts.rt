@@ -10,7 +10,7 @@ use std::alloc::Global;
 
 /// The parts of a stack.
 #[derive(Drop)]
-pub struct Parts<'s> {
+pub(crate) struct Parts<'s> {
     pub alloc: Global,
     pub stack: &'s Stack,
     /// Which terms are parts of the assertions, by their places.
@@ -24,18 +24,19 @@ pub struct Parts<'s> {
 
 /// Two Ints whose equality is to get a number.
 #[derive(Clone, Copy, PartialEq, Eq, Drop)]
-pub struct Pair {
+pub(crate) struct Pair {
     pub left: TermId,
     pub right: TermId,
 }
 
 /// How far a search over the parts has come.
 #[derive(Drop)]
-pub struct Progress {
+pub(crate) struct Progress {
     pub forms: LinearForms,
     pub atoms: AtomNumbers,
-    /// How many atoms had numbers before one that couldn't be kept, for want of memory.
-    pub lost: Option<u32>,
+    /// How many atoms had numbers when the search stopped, since when nothing is told or numbered: memory was wanting for an atom or a unit, or the bound of an atom
+    /// left the range.
+    pub stopped_at: Option<u32>,
     pub held: Held,
     /// Pairs whose equalities are to get numbers.
     pub pairs: Vec<Pair>,

@@ -68,7 +68,7 @@ fn meet_by_units(
     match spend_pivots(budget, lines) {
         Ok(()) => Ok(met),
         Err(error) => {
-            progress.lost = Some(progress.atoms.len() as u32);
+            progress.stopped_at = Some(progress.atoms.len() as u32);
             Err(error)
         }
     }

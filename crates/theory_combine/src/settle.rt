@@ -1,6 +1,6 @@
 //! The slow way of a last check whose values are whole and meet all bounds. Each of its ends is a true one: a model, a clause that is false, an atom more, or where a
-//! number left the range; only an allocation that fails is want of memory.
-ghost use Rattle.std.specs.Prelude.{◌≡◌, ◌<◌, List, length, Contains, IfOk, IfSome, IfNone, MatchOption};
+//! number left the range. That only an allocation that fails is want of memory is how it is written; no clause says it.
+ghost use Rattle.std.specs.Prelude.{◌≡◌, ◌<◌, List, length, All, Contains, IfOk, IfSome, IfNone, MatchOption};
 ghost use Rattle.smt_meaning.specs.declared.clauses.Atom.{Atom};
 ghost use Rattle.smt_meaning.specs.Interpretation.{AreTablesFor};
 ghost use Rattle.smt_meaning.specs.Ranges.{LeavesInModel};
@@ -17,7 +17,7 @@ ghost use Rattle.exact_model.specs.Ends.{GiveExactValues};
 ghost use Rattle.theory_combine.specs.Held.{AllFit};
 ghost use Rattle.theory_combine.specs.Ready.{Checks, IsAtLast, IsMetAtLast, IsReady, Steps};
 ghost use Rattle.theory_combine.specs.Settled.{IsToldWhereEmpty};
-ghost use Rattle.theory_combine.specs.Settling.{IsAtomTold, AreAtomsTold, AreValuesBy, IsGivenBy, KeepsParts};
+ghost use Rattle.theory_combine.specs.Settling.{IsAtomTold, AreAtomsTold, AreValuesBy, HasTellableInts, IsGivenBy, KeepsParts};
 
 use crate::clashes::meet_clash;
 use crate::distincts::unnumbered_ints;
@@ -242,6 +242,43 @@ fn settle_tables(
     }
 }
 
+/// Goes on from what the terms are given, where wide `distinct`s tell Ints that are given one value apart by equalities that have numbers.
+fn settle_apart(
+    parts: &Parts<'_>,
+    progress: &mut Progress,
+    budget: &mut Budget,
+    closure: &Congruence,
+    values: &[Value],
+    given: &[Given],
+) -> Checked
+    requires met { IsMetAtLast parts.now progress.old }
+    requires told { AreAtomsTold parts.now progress.old }
+    requires parts { KeepsParts parts.now progress.old closure.now }
+    requires values { AreValuesBy parts.now progress.old closure.now values.now }
+    requires given { IsGivenBy parts.now values.now given.now }
+    requires tellable { All (HasTellableInts parts.now progress.old given.now) parts.now.wide_distincts.items }
+    ensures { Checks parts.now progress.old progress.new budget.old budget.new result }
+{
+    stays(parts, progress, budget);
+    numbers_are_found();
+    parts_have_numbers();
+    operators_are_decided();
+    comparisons_are_by_class();
+    choices_are_by_class();
+    distincts_are_by_class();
+    tables_give_exact_values();
+    parts.stack.laws();
+    match model_from(parts.alloc, parts.stack, given) {
+        Err(_) => Checked::Ended(Cause::Memory),
+        Ok(Modelled::Clash(clash)) => checked(meet_clash(
+            parts, progress, budget, closure, given, clash,
+        )),
+        Ok(Modelled::Tables(tables)) => {
+            settle_tables(parts, progress, budget, closure, values, tables)
+        }
+    }
+}
+
 /// Goes on from what the terms are given.
 fn settle_given(
     parts: &Parts<'_>,
@@ -259,25 +296,10 @@ fn settle_given(
     ensures { Checks parts.now progress.old progress.new budget.old budget.new result }
 {
     stays(parts, progress, budget);
-    numbers_are_found();
-    parts_have_numbers();
-    operators_are_decided();
-    comparisons_are_by_class();
-    choices_are_by_class();
-    distincts_are_by_class();
-    tables_give_exact_values();
-    parts.stack.laws();
-    if let Some(pair) = unnumbered_ints(parts, progress, given) {
-        return checked(go_on_with_pair(parts, progress, budget, pair));
-    }
-    match model_from(parts.alloc, parts.stack, given) {
+    match unnumbered_ints(parts, progress, given) {
         Err(_) => Checked::Ended(Cause::Memory),
-        Ok(Modelled::Clash(clash)) => checked(meet_clash(
-            parts, progress, budget, closure, given, clash,
-        )),
-        Ok(Modelled::Tables(tables)) => {
-            settle_tables(parts, progress, budget, closure, values, tables)
-        }
+        Ok(Some(pair)) => checked(go_on_with_pair(parts, progress, budget, pair)),
+        Ok(None) => settle_apart(parts, progress, budget, closure, values, given),
     }
 }
 
@@ -354,8 +376,7 @@ fn settle_closure(
     }
 }
 
-/// A last check whose values are whole and meet all bounds: a model, a clause that is false, an atom more, or where a number left the range. Memory is wanting only
-/// where an allocation fails.
+/// A last check whose values are whole and meet all bounds: a model, a clause that is false, an atom more, or where a number left the range.
 pub(crate) fn settle(parts: &Parts<'_>, progress: &mut Progress, budget: &mut Budget) -> Checked
     requires met { IsMetAtLast parts.now progress.old }
     ensures { Checks parts.now progress.old progress.new budget.old budget.new result }

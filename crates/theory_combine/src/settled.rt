@@ -16,13 +16,12 @@ ghost use Rattle.theory_combine.specs.Settled.{AreAllTold, IsSettled, IsSettledW
 
 use crate::constant::constant_lemma;
 use crate::held::Held;
-use crate::pairs::{Sought, is_fit, other_way, seek, stop_at_pair};
+use crate::pairs::{bound_number, is_fit};
 use crate::parts::{Pair, Parts, Progress};
-use crate::step::{Step, go_on_with_bound, stays};
+use crate::step::{Step, stays};
 use atom_form::{AtomNumbers, CompactAtom, NumberedAtom};
 use bound_clauses::{constant_has_value, equality_is_decided};
 use bound_log::{tie_lemmas, wholes_hold};
-use check_atoms::bounds_are_over_leaves;
 use closure_log::told_of;
 use literals::Literal;
 use search_port::{Budget, Cause, Lemma};
@@ -143,6 +142,17 @@ fn untrue_tie(
     }
 }
 
+/// The pair with its terms exchanged.
+fn other_way(pair: Pair) -> Pair
+    ensures left { result.left ≡ pair.right }
+    ensures right { result.right ≡ pair.left }
+{
+    Pair {
+        left: pair.right,
+        right: pair.left,
+    }
+}
+
 /// A clause that is false: of a bound of the empty sum, of the two terms' bounds, or of an equality that has a number and these bounds. None where such an equality is
 /// told as the values have it. An `Err` is for want of memory.
 fn untrue_clause(
@@ -201,46 +211,6 @@ fn settle_tied(
     }
 }
 
-/// Goes on from a pair whose first bound has a number.
-fn settle_above(
-    parts: &Parts<'_>,
-    progress: &mut Progress,
-    budget: &mut Budget,
-    pair: Pair,
-    low: u32,
-) -> Option<Step>
-    requires met { IsMetAtLast parts.now progress.old }
-    requires left { IsFit parts.now.stack.now parts.now.marks.items pair.left }
-    requires right { IsFit parts.now.stack.now parts.now.marks.items pair.right }
-    requires low { IsAtMostAt parts.now.stack.now.trees progress.old.atoms.atoms pair.left pair.right low }
-    ensures some { IfSome result (Steps parts.now progress.old progress.new budget.old budget.new) }
-    ensures none { IfNone result (IsSettled parts.now.stack.now progress.old.atoms.atoms progress.old.held pair) }
-    ensures same { IfNone result (progress.new ≡ progress.old) }
-    ensures unspent { IfNone result (budget.new ≡ budget.old) }
-{
-    flat_says_the_same();
-    bounds_are_over_leaves();
-    parts.stack.laws();
-    let sought = seek(
-        parts,
-        &mut progress.forms,
-        &progress.atoms,
-        pair.right,
-        pair.left,
-    );
-    match sought {
-        Sought::Number(high) => settle_tied(parts, progress, budget, pair, low, high),
-        Sought::New(bound) => Some(go_on_with_bound(parts, progress, budget, bound)),
-        Sought::Outside(error) => Some(stop_at_pair(
-            parts,
-            progress,
-            budget,
-            other_way(pair),
-            error,
-        )),
-    }
-}
-
 /// Goes on from two Ints whose equality has a number, in one order or the other, where the values are whole and meet all bounds: with a bound of their difference that
 /// has no number, or with a clause of the equality and both bounds that is false. None where the equality is told as the values have it.
 pub(crate) fn settle_pair(
@@ -257,20 +227,12 @@ pub(crate) fn settle_pair(
     ensures same { IfNone result (progress.new ≡ progress.old) }
     ensures unspent { IfNone result (budget.new ≡ budget.old) }
 {
-    flat_says_the_same();
-    bounds_are_over_leaves();
-    parts.stack.laws();
-    let sought = seek(
-        parts,
-        &mut progress.forms,
-        &progress.atoms,
-        pair.left,
-        pair.right,
-    );
-    match sought {
-        Sought::Number(low) => settle_above(parts, progress, budget, pair, low),
-        Sought::New(bound) => Some(go_on_with_bound(parts, progress, budget, bound)),
-        Sought::Outside(error) => Some(stop_at_pair(parts, progress, budget, pair, error)),
+    match bound_number(parts, progress, budget, pair.left, pair.right) {
+        Err(step) => Some(step),
+        Ok(low) => match bound_number(parts, progress, budget, pair.right, pair.left) {
+            Err(step) => Some(step),
+            Ok(high) => settle_tied(parts, progress, budget, pair, low, high),
+        },
     }
 }
 

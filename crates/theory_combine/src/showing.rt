@@ -33,7 +33,7 @@ fn write_atom(alloc: Global, atoms: &AtomNumbers, number: u32) -> Result<Atom, A
 }
 
 /// The atom of a number that is told of, written out. An `Err` is for want of memory.
-pub fn written(
+pub(crate) fn written(
     alloc: Global,
     parts: &Parts<'_>,
     progress: &Progress,
@@ -47,7 +47,7 @@ pub fn written(
 }
 
 /// The branches, with which the atoms are those of a check, and where a number left the range.
-pub fn show(parts: &Parts<'_>, progress: Progress) -> Showing
+pub(crate) fn show(parts: &Parts<'_>, progress: Progress) -> Showing
     requires { IsProgress parts.now progress }
     ensures { IsShowing (full_state parts.now progress) result }
 {

@@ -31,7 +31,7 @@ use std::alloc::{AllocError, Global};
 
 /// What a search begins with.
 #[derive(Drop)]
-pub struct Begun {
+pub(crate) struct Begun {
     pub guide: Guide,
     pub held: Held,
 }
@@ -182,7 +182,7 @@ fn begin_with(
 
 /// Nothing is told of the parts of a stack and their atoms. An `Err` is for want of memory, of which a stack of 2^32 - 3 terms or more leaves none, or shows that a
 /// row of an atom leaves the range.
-pub fn begin(
+pub(crate) fn begin(
     alloc: Global,
     stack: &Stack,
     marks: &[bool],

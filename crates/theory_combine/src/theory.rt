@@ -2,7 +2,11 @@
 ghost use Rattle.std.specs.Prelude.{Contains, IfSome, IfNone};
 ghost use Rattle.atom_form.specs.AtomTableNumbers.{IsAt};
 
-use crate::{Begun, BoundError, Parts, Progress, begin, check, look, show, tell, undo_to, written};
+use crate::calls::{check, look, tell, undo_to};
+use crate::errors::BoundError;
+use crate::parts::{Parts, Progress};
+use crate::showing::{show, written};
+use crate::start::{Begun, begin};
 use atom_form::{AtomNumbers, CompactAtom};
 use check_atoms::CheckAtoms;
 use closure_log::{asserted_distincts, wide_xors};
@@ -75,7 +79,7 @@ impl<'s> Combined<'s> {
             progress: Progress {
                 forms: parts.forms,
                 atoms: parts.atoms,
-                lost: None,
+                stopped_at: None,
                 held: begun.held,
                 pairs: Vec::new(alloc),
                 branches: Seq::new(alloc),
@@ -116,7 +120,7 @@ impl<'s> Theory for Combined<'s> {
     ghost agrees = { λ r log. IsAgreed r log };
 
     fn atoms(&self) -> u32 {
-        match self.progress.lost {
+        match self.progress.stopped_at {
             None => self.progress.atoms.len() as u32,
             Some(count) => count,
         }

@@ -1,14 +1,11 @@
 //! Values of the parts, as the closure and the bounds have them.
-ghost use Rattle.std.specs.Prelude.{◌≡◌, ◌+◌, ◌<◌, ◌≤◌, ◌^◌, length, All, IfOk};
-ghost use Rattle.literals.specs.Signed.{Signed};
-ghost use Rattle.congruence.specs.Recorded.{IsRecorded};
-ghost use Rattle.theory_combine.specs.Held.{IsHeld};
+ghost use Rattle.std.specs.Prelude.{◌≡◌, ◌<◌, ◌^◌, length, IfOk};
+ghost use Rattle.theory_combine.specs.Ready.{IsAtLast};
 
 use crate::held::{Held, leads};
+use crate::listing::{class_numbers, told_truths};
+use crate::parts::{Parts, Progress};
 use atom_form::{AtomNumbers, NumberedAtom};
-use congruence::Congruence;
-use literals::Literal;
-use scope_stack::Stack;
 use smt_meaning::Summand;
 use std::alloc::{AllocError, Global};
 
@@ -27,20 +24,6 @@ pub(crate) struct Chosen {
     pub(crate) truths: Vec<bool>,
     pub(crate) numbers: Vec<i128>,
     pub(crate) elements: Vec<u32>,
-}
-
-/// The number of the class of each term. An `Err` is for want of memory.
-fn classes(alloc: Global, congruence: &Congruence, count: u32) -> Result<Vec<u32>, AllocError>
-    requires recorded { IsRecorded congruence.now }
-    requires every { count + 2 ≤ length congruence.now.closure.graph }
-    requires few { count + 2 < 2 ^ 32 }
-    ensures { IfOk result (λ elements. length elements.items ≡ count) }
-{
-    let mut elements = Vec::new(alloc);
-    for place in 0..count {
-        elements.push(congruence.closure.class_of(place + 2))?;
-    }
-    Ok(elements)
 }
 
 /// Marks the terms of a sum.
@@ -125,55 +108,24 @@ fn numbers(
     Ok(numbers)
 }
 
-/// Sets the truth of a term that a literal tells.
-fn set_truth(truths: &mut [bool], atoms: &AtomNumbers, literal: Literal)
-    requires { literal.atom < length atoms.now.atoms }
-    ensures { length truths.new ≡ length truths.old }
-{
-    if let NumberedAtom::Truth(term) = atoms.atom(literal.atom()) {
-        if (term as usize) < truths.len() {
-            truths[term as usize] = literal.is_positive();
-        }
-    }
-}
-
-/// The truth of each term that the log tells. An `Err` is for want of memory.
-fn truths(
-    alloc: Global,
-    atoms: &AtomNumbers,
-    log: &[Literal],
-    count: u32,
-) -> Result<Vec<bool>, AllocError>
-    requires { All (λ (l : Signed). l.atom < length atoms.now.atoms) log.now }
-    ensures { IfOk result (λ truths. length truths.items ≡ count) }
-{
-    let mut truths = vec![in alloc; false; count as usize]?;
-    for literal in log {
-        set_truth(&mut truths, atoms, *literal);
-    }
-    Ok(truths)
-}
-
 /// A value for each term; that of an Int whose place is among those moved is the number there. An `Err` is for want of memory.
 pub(crate) fn values_of(
-    alloc: Global,
-    stack: &Stack,
-    atoms: &AtomNumbers,
-    held: &Held,
+    parts: &Parts<'_>,
+    progress: &Progress,
     untied: Untied,
     moved: &[i128],
 ) -> Result<Chosen, AllocError>
-    requires few { length stack.now.trees + 2 < 2 ^ 32 }
-    requires held { IsHeld stack.now atoms.now.atoms held.now }
-    ensures truths { IfOk result (λ c. length c.truths.items ≡ length stack.now.trees) }
-    ensures numbers { IfOk result (λ c. length c.numbers.items ≡ length stack.now.trees) }
-    ensures elements { IfOk result (λ c. length c.elements.items ≡ length stack.now.trees) }
+    requires { IsAtLast parts.now progress.now }
+    ensures truths { IfOk result (λ c. length c.truths.items ≡ length parts.now.stack.now.trees) }
+    ensures numbers { IfOk result (λ c. length c.numbers.items ≡ length parts.now.stack.now.trees) }
+    ensures elements { IfOk result (λ c. length c.elements.items ≡ length parts.now.stack.now.trees) }
 {
-    let count = stack.terms().len();
-    let elements = classes(alloc, &held.closure.congruence, count)?;
-    let stands = bounded(alloc, atoms, count)?;
-    let numbers = numbers(alloc, held, &stands, &elements, untied, moved)?;
-    let truths = truths(alloc, atoms, &held.closure.log, count)?;
+    let held = &progress.held;
+    let count = parts.stack.terms().len();
+    let elements = class_numbers(parts.alloc, &held.closure.congruence, count)?;
+    let stands = bounded(parts.alloc, &progress.atoms, count)?;
+    let numbers = numbers(parts.alloc, held, &stands, &elements, untied, moved)?;
+    let truths = told_truths(parts, progress)?;
     Ok(Chosen {
         truths,
         numbers,

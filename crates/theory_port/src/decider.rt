@@ -1,5 +1,5 @@
 //! Who decides the checks of a run.
-ghost use Rattle.std.specs.Prelude.{◌≡◌, true, IfOk};
+ghost use Rattle.std.specs.Prelude.{IfOk};
 
 use scope_stack::Stack;
 use smt_meaning::{Interp, Report, Seq, Settings};
@@ -16,20 +16,13 @@ pub enum Verdict {
     Unknown(Seq<Report>),
 }
 
-/// Decides whether the assertions of a stack have a model (SMT-LIB 2.6, section 4.2.5), on the stacks that it takes.
+/// Decides whether the assertions of a stack have a model (SMT-LIB 2.6, section 4.2.5). It decides every stack: also one without some assertions of another, and one with a level more.
 pub trait Decider {
-    ghost use Rattle.std.specs.Prelude.{◌<◌, Bool, List};
-    ghost use Rattle.smt_meaning.specs.Stack.{Frame};
+    ghost use Rattle.std.specs.Prelude.{◌<◌};
     ghost use Rattle.theory_port.specs.Verdicts.{IsVerdict};
-
-    ghost decides: { List Frame → Bool };
 
     /// What its calls need of it. Each call leaves it so.
     ghost may: { Self → Type 0 };
-
-    /// Whether it takes the stack. An `Err` is for want of memory.
-    fn takes(&self, alloc: Global, stack: &Stack) -> Result<bool, AllocError>
-        ensures { IfOk result (λ taken. taken ≡ decides stack.now.frames) };
 
     /// Decides a check by the workers of the settings in force, whose units are its limit. An `Err` is for want of memory.
     fn decide(
@@ -39,17 +32,7 @@ pub trait Decider {
         settings: &Settings,
     ) -> Result<Verdict, AllocError>
         requires may { may self.old }
-        requires taken { decides stack.now.frames ≡ true }
         requires workers { 0 < settings.now.workers }
         ensures still { may self.new }
         ensures verdict { IfOk result (IsVerdict settings.now.workers stack.now.trees stack.now.frames settings.now.units) };
-
-    /// It takes every stack: also one without some assertions of another, and one with a level more.
-    fn takes_all(&self)
-        ensures { (frames : List Frame) → decides frames ≡ true };
-
-    /// Forgets what it keeps of levels above this one, so that they may go; at -1 all that it keeps. It takes no memory.
-    fn cut_to(&mut self, level: i32)
-        requires { may self.old }
-        ensures { may self.new };
 }

@@ -1,40 +1,21 @@
 //! What a decider finds of a stack. It is shown the terms of the assertions alone, where these are few, and the whole stack where that doesn't settle the check: a report speaks of all terms.
-ghost use Rattle.std.specs.Prelude.{◌≡◌, ◌<◌, ℕ, Bool, List, ℤ, IfOk};
+ghost use Rattle.std.specs.Prelude.{◌≡◌, ◌<◌, ℕ, List, ℤ, IfOk};
 ghost use Rattle.smt_meaning.specs.Term.{Tree};
 ghost use Rattle.smt_meaning.specs.Stack.{Frame};
-ghost use Rattle.theory_port.specs.Found.{IsFound, IsSettled};
+ghost use Rattle.theory_port.specs.Found.{IsSettled};
+ghost use Rattle.theory_port.specs.Verdicts.{IsVerdict};
 
 use crate::decider::{Decider, Verdict};
-use scope_stack::{ScopeStack, Stack};
+use scope_stack::ScopeStack;
 use smt_meaning::Settings;
 use std::alloc::{AllocError, Global};
 use std::mem;
 
-/// What is found of a stack as a check sees it. `None` where the decider doesn't take it; an `Err` is for want of memory.
-fn find<D: Decider>(
-    alloc: Global,
-    decider: &mut D,
-    settings: &Settings,
-    stack: &Stack,
-) -> Result<Option<Verdict>, AllocError>
-    requires may { D.may decider.old }
-    requires workers { 0 < settings.now.workers }
-    ensures still { D.may decider.new }
-    ensures found { IfOk result (IsFound settings.now.workers D.decides stack.now.trees stack.now.frames settings.now.units) }
-{
-    let taken = decider.takes(alloc, stack)?;
-    if taken {
-        Ok(Some(decider.decide(alloc, stack, settings)?))
-    } else {
-        Ok(None)
-    }
-}
-
 /// A model, or that there is none, if it was found.
-fn settled(found: Option<Verdict>) -> Option<Verdict>
-    ensures { (workers : ℕ) (decided : List Frame → Bool) (ts : List Tree) (frames : List Frame) (limit : ℤ) → IsFound workers decided ts frames limit found → IsSettled decided frames result }
+fn settled(found: Verdict) -> Option<Verdict>
+    ensures { (workers : ℕ) (ts : List Tree) (frames : List Frame) (limit : ℤ) → IsVerdict workers ts frames limit found → IsSettled frames result }
 {
-    match found? {
+    match found {
         Verdict::Sat(model) => Some(Verdict::Sat(model)),
         Verdict::Unsat => Some(Verdict::Unsat),
         Verdict::Unknown(_) => None,
@@ -52,7 +33,7 @@ fn find_by_part<D: Decider>(
     requires workers { 0 < settings.now.workers }
     ensures still { D.may decider.new }
     ensures stays { stack.new ≡ stack.old }
-    ensures found { IfOk result (IsSettled D.decides stack.old.frames) }
+    ensures found { IfOk result (IsSettled stack.old.frames) }
 {
     let whole = mem::replace(stack, ScopeStack::new(alloc));
     match whole.part(alloc) {
@@ -61,31 +42,31 @@ fn find_by_part<D: Decider>(
             Ok(None)
         }
         Ok(part) => {
-            let found = find(alloc, decider, settings, part.stack());
+            let found = decider.decide(alloc, part.stack(), settings);
             *stack = part.whole();
             Ok(settled(found?))
         }
     }
 }
 
-/// What is found of a stack, which stays as it is. `None` where the decider doesn't take it; an `Err` is for want of memory.
+/// What is found of a stack, which stays as it is. An `Err` is for want of memory.
 pub fn found<D: Decider>(
     alloc: Global,
     decider: &mut D,
     settings: &Settings,
     stack: &mut ScopeStack,
-) -> Result<Option<Verdict>, AllocError>
+) -> Result<Verdict, AllocError>
     requires may { D.may decider.old }
     requires workers { 0 < settings.now.workers }
     ensures still { D.may decider.new }
     ensures stays { stack.new ≡ stack.old }
-    ensures found { IfOk result (IsFound settings.now.workers D.decides stack.old.trees stack.old.frames settings.now.units) }
+    ensures found { IfOk result (IsVerdict settings.now.workers stack.old.trees stack.old.frames settings.now.units) }
 {
     if let Some(verdict) = find_by_part(alloc, decider, settings, stack)? {
-        return Ok(Some(verdict));
+        return Ok(verdict);
     }
     let seen = mem::replace(stack, ScopeStack::new(alloc)).into_stack();
-    let found = find(alloc, decider, settings, &seen);
+    let found = decider.decide(alloc, &seen, settings);
     *stack = ScopeStack::of(seen);
     found
 }

@@ -1,4 +1,4 @@
-use ports::{Gate, OpenGate, PairGate};
+use ports::{Gate, PairGate};
 use std::test::Fail;
 use std::thread::join;
 
@@ -11,9 +11,4 @@ fn two_workers_meet_in_their_first_turns(rt: HostRuntime) -> Result<(), Fail> {
     join(&rt, || gate.turn(0, 0), || gate.turn(1, 0));
     assert!(rt; gate.met());
     Ok(())
-}
-
-#[test]
-fn an_open_gate_returns() {
-    OpenGate.turn(3, 0);
 }

@@ -1,6 +1,6 @@
 -- Clauses of a race over numbers and written out.
 use Rattle.std.proofs.Common.{◌≡◌, ℕ, zero, suc, ◌+◌, ◌-◌, ◌<◌, ◌≤◌, Bool, true, false, not, nat_eq, List, [], ◌∷◌, ◌++◌, drop, map, length, get_or, All, Contains, subst, sym, ap, ◌∙◌, arith, refl, append_assoc}
-use Rattle.std.specs.Prelude.{◌==◌, Option, Some, IfSome}
+use Rattle.std.specs.Prelude.{◌==◌, Option, Some, Result, Ok, Err, IfSome, OnOk, ⊤}
 use Rattle.std.proofs.lemmas.List.{take_all, length-map}
 use Rattle.std.proofs.lemmas.List.Elements.{All-contains, All-push, Contains-get_or}
 use Rattle.std.proofs.lemmas.Bool.Decides.{nat_tests}
@@ -135,6 +135,10 @@ pair_shown table ls ms same pair may = by_sign table ls pair.0.atom pair.0.posit
 
 pub of_some : {A : Type 0} (P : A → Type 0) (o : Option A) (x : A) → o ≡ Some x → IfSome o P → P x
 of_some P o x e h = subst (λ q. IfSome q P) e h
+
+pub on_ok : {E : Type 0} (r : Result ⊤ E) (P Q : Type 0) → OnOk r P → (P → Q) → OnOk r Q
+on_ok (Ok u) P Q h f = f h
+on_ok (Err e) P Q h f = h
 
 pub not_none : (n : ℕ) → false ≡ (n == 0) → 0 < n
 not_none zero e = absurd cc

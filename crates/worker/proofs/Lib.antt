@@ -8,5 +8,4 @@ pub mod SameStack
 pub mod Showing
 pub mod Steps
 pub mod Units
-mod Fitting
 mod RefusalShown

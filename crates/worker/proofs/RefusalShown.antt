@@ -1,16 +1,13 @@
 -- What a refusal shows.
-use Rattle.std.proofs.Common.{ℕ, List, [], All, ℤ, arith}
+use Rattle.std.proofs.Common.{ℕ, List, [], ℤ, arith}
 use Rattle.std.proofs.lemmas.List.Elements.{All-nil}
 use Rattle.fraction128.specs.declared.Summand.{Summand}
 use Rattle.fraction128.specs.Lines.{AreSums}
-use Rattle.std.specs.Prelude.{IsTrue}
 use Rattle.smt_meaning.specs.declared.reports.RangeSeen.{RangeSeen}
 use Rattle.smt_meaning.specs.declared.reports.RangeSeen.TheVariants.{Coefficient}
-use Rattle.smt_meaning.specs.Term.{Tree}
 use Rattle.smt_meaning.specs.StackCommand.{Stack}
 use Rattle.smt_meaning.specs.Report.{IsPastRange, Shows, IsCheckAtom}
 use Rattle.smt_meaning.specs.Ranges.{LeavesRange}
-use Rattle.smt_laws.specs.Numerals.{numerals_fit}
 use Rattle.scope_stack.specs.Shown.{IsLawful}
 use Rattle.bound_clauses.specs.declared.orders.Sense.{Sense}
 use Rattle.bound_clauses.specs.declared.orders.Sense.TheVariants.{NotAbove, Below}
@@ -33,10 +30,10 @@ no_sums Known = record { apart = λ i j d l m. absurd (omega (arith, m)); filled
 without_variables : (s : Stack) (seen : RangeSeen) → LeavesRange s.trees s.frames [] (IsCheckAtom s.trees s.frames []) seen → IsPastRange s.trees s.frames [] seen
 without_variables s seen h = record { sums = []; known = no_sums _; are_branches = tt; leaves = h }
 
-pub shown : RefusedTermLeavesRange → LawfulPairsLeaveRange → LawfulLimitsLeaveRange → (s : Stack) (limit : ℤ) (e : Refusal) → IsLawful s → All (λ (t : Tree). IsTrue (numerals_fit t)) s.trees → IsRefused s e
+pub shown : RefusedTermLeavesRange → LawfulPairsLeaveRange → LawfulLimitsLeaveRange → (s : Stack) (limit : ℤ) (e : Refusal) → IsLawful s → IsRefused s e
     → Shows s.trees s.frames limit [] (cause_of e)
-shown term pairs limits s limit (Term place) lawful numerals r = without_variables s (Coefficient place) (term s place lawful r)
-shown term pairs limits s limit (Pair part o) lawful numerals r =
-    without_variables s (pair_seen part o.sense o.lesser o.greater) (pair_shown s part o.sense o.lesser o.greater (pairs s part o lawful numerals r))
-shown term pairs limits s limit (Limit part) lawful numerals r = without_variables s (Coefficient part) (limits s part lawful numerals r)
-shown term pairs limits s limit Memory lawful numerals r = tt
+shown term pairs limits s limit (Term place) lawful r = without_variables s (Coefficient place) (term s place lawful r)
+shown term pairs limits s limit (Pair part o) lawful r =
+    without_variables s (pair_seen part o.sense o.lesser o.greater) (pair_shown s part o.sense o.lesser o.greater (pairs s part o lawful lawful.numerals r))
+shown term pairs limits s limit (Limit part) lawful r = without_variables s (Coefficient part) (limits s part lawful lawful.numerals r)
+shown term pairs limits s limit Memory lawful r = tt

@@ -1,5 +1,5 @@
 -- What a search over a stack shows where it ends without an answer.
-use Rattle.std.proofs.Common.{◌≡◌, inl, inr, ◌⊎◌, ℕ, suc, ◌+◌, ◌<◌, Bool, true, false, not, ◌||◌, ◌&&◌, List, [], ◌∷◌, ◌++◌, map, length, All, Contains, get_or, subst, sym, ap, ◌∙◌, arith, refl}
+use Rattle.std.proofs.Common.{◌≡◌, inl, inr, ◌⊎◌, ℕ, suc, ◌+◌, ◌<◌, Bool, true, false, not, ◌||◌, List, [], ◌∷◌, ◌++◌, map, length, All, Contains, get_or, subst, sym, ap, ◌∙◌, arith, refl}
 use Rattle.std.specs.Prelude.{ℤ, Option, Some, None, IfSome}
 use Rattle.std.specs.List.{range_with_len}
 use Rattle.std.proofs.lemmas.List.{append-nil, length-map, length-append}
@@ -58,26 +58,6 @@ pub record Laws : Type 0 where
 only_first : (a b : Bool) → b ≡ false → (a || b) ≡ a
 only_first true b e = refl
 only_first false b e = e
-
--- a worker that may not forget doesn't
-pub kept_all : (limit : ℤ) (v later : Bool) → v ≡ not (is_unlimited limit) → (is_unlimited limit && later) ≡ false → (later && not v) ≡ false
-kept_all limit v later e kept = ap (λ x. later && not x) e ∙ by (is_unlimited limit) later kept
-  where
-    by : (a b : Bool) → (a && b) ≡ false → (b && not (not a)) ≡ false
-    by true true z = absurd (cc)
-    by true false z = refl
-    by false true z = refl
-    by false false z = refl
-
--- and one that doesn't may not
-pub may_not : (limit : ℤ) (v later : Bool) → v ≡ not (is_unlimited limit) → (later && not v) ≡ false → (is_unlimited limit && later) ≡ false
-may_not limit v later e kept = by (is_unlimited limit) later (ap (λ x. later && not x) (sym e) ∙ kept)
-  where
-    by : (a b : Bool) → (b && not (not a)) ≡ false → (a && b) ≡ false
-    by true true z = absurd (cc)
-    by true false z = refl
-    by false true z = refl
-    by false false z = refl
 
 -- how a budget of this limit begins where nothing is forgotten
 pub record IsBudget (limit : ℤ) (b : Spending) : Type 0 where

@@ -6,7 +6,7 @@ ghost use Rattle.worker.specs.Endings.{IsFound, IsHeard, MemoryAloneIsFound};
 ghost use Rattle.worker.specs.Start.{IsStart};
 
 use crate::ending::{all_spent, stopped};
-use crate::limits::{has_limit, units_within};
+use crate::limits::{has_limit, may_forget, units_within};
 use cdcl_core::fresh_stands;
 use cdcl_core::hook::Hook;
 use cdcl_core::solve::{Outcome, solve};
@@ -66,7 +66,7 @@ pub(crate) fn search<T: Shown, H: Hook<T>>(
     let mut order = Order::new(alloc, settings.seed, worker);
     let limit = units_within(settings);
     let limited = has_limit(settings);
-    let forgets = (worker > 0) & !limited;
+    let forgets = may_forget(settings, worker);
     let mut budget = Budget::new(alloc, limit, limited | forgets, limited, settings.share);
     match solve(
         alloc,

@@ -5,7 +5,7 @@ ghost use Rattle.smt_laws.specs.Flat.{flat};
 ghost use Rattle.worker.specs.Outcome.{IsReportOf, ReportsMemory};
 ghost use Rattle.worker.specs.Shown.{IsOfNumbers, ShowsUnits, may_forget};
 
-use crate::limits::has_limit;
+use crate::limits::{has_limit, may_forget};
 use crate::plain::nothing_leaves_range;
 use crate::report::out_of_memory;
 use crate::shown::write_units;
@@ -33,11 +33,10 @@ pub(crate) fn all_spent<T: Shown>(
     ensures report { IsReportOf stack.now settings.now.units worker result }
     ensures memory { ReportsMemory stack.now.frames settings.now.units result }
 {
-    let limited = has_limit(settings);
-    let forgets = (worker > 0) & !limited;
-    if forgets {
+    if may_forget(settings, worker) {
         return stopped(alloc, stack, settings, worker, theory);
     }
+    let limited = has_limit(settings);
     if is_integer_free && !limited {
         return stopped(alloc, stack, settings, worker, theory);
     }

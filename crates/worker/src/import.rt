@@ -10,7 +10,7 @@ ghost use Rattle.cdcl_core.specs.Search.{AreAddable, IsAddable};
 ghost use Rattle.first_clauses.specs.PartClausesFirst.{written_literal};
 ghost use Rattle.race_cell.specs.Passes.{base_of, claim_of, IsSamePass};
 ghost use Rattle.worker.specs.Racing.{base_of_stack, first_reading, Adds, TakesOne};
-ghost use Rattle.worker.specs.Import.{AreTaken, HasPair, IsTaken, MayTake, SaysSame};
+ghost use Rattle.worker.specs.Import.{AreTaken, HasPair, IsTaken, MayTake, SaysSame, TakesBatch};
 
 use literals::Literal as Packed;
 use race_cell::{Batch, Pass, Race};
@@ -100,7 +100,7 @@ fn take_entry<T: Named>(
     requires heard { IsGrown (first_reading stack.now) (T.state theory.now).reading }
     requires sound { IsSound (base_of_stack stack.now) entry.now.clause }
     requires addable { AreAddable (T.state theory.now).reading lemmas.old }
-    ensures addable { OnOk result (AreAddable (T.state theory.now).reading lemmas.new) }
+    ensures addable { AreAddable (T.state theory.now).reading lemmas.new }
     ensures stay { OnOk result ((m : _) → Contains lemmas.old m → Contains lemmas.new m) }
     ensures taken { OnOk result (IsTaken (T.state theory.now).reading.table worker lemmas.new entry.now) }
 {
@@ -113,46 +113,48 @@ fn take_entry<T: Named>(
     Ok(())
 }
 
-/// The clauses of entries of other workers that may be taken. An `Err` is for want of memory.
+/// Adds the clauses of entries of other workers that may be taken. After an `Err`, for want of memory, the first of them are there.
 fn take_entries<T: Named>(
     alloc: Global,
     stack: &Stack,
     theory: &T,
     worker: u8,
     entries: &[Entry],
-) -> Result<Seq<Lemma>, AllocError>
+    lemmas: &mut Seq<Lemma>,
+) -> Result<(), AllocError>
     requires heard { IsGrown (first_reading stack.now) (T.state theory.now).reading }
     requires sound { All (λ (e : EntryValue). IsSound (base_of_stack stack.now) e.clause) entries.now }
-    ensures addable { IfOk result (AreAddable (T.state theory.now).reading) }
-    ensures taken { IfOk result (AreTaken (T.state theory.now).reading.table worker entries.now) }
+    requires addable { AreAddable (T.state theory.now).reading lemmas.old }
+    ensures addable { AreAddable (T.state theory.now).reading lemmas.new }
+    ensures taken { OnOk result (AreTaken (T.state theory.now).reading.table worker entries.now lemmas.new) }
 {
-    let mut lemmas = Seq::new(alloc);
     for entry in entries {
-        take_entry(alloc, stack, theory, worker, entry, &mut lemmas)?;
+        take_entry(alloc, stack, theory, worker, entry, lemmas)?;
     }
-    Ok(lemmas)
+    Ok(())
 }
 
-/// Takes a batch, in one try, and gives the clauses of it that may be taken. Where memory is wanting it gives none.
+/// Takes a batch, in one try, and adds the clauses of it that may be taken. After an `Err`, for want of memory, the first of them are there.
 pub(crate) fn take_clauses<S: Shelf, T: Named>(
     alloc: Global,
     stack: &Stack,
     race: &Race<S>,
     pass: &mut Pass<S>,
     theory: &T,
-) -> Seq<Lemma>
+    lemmas: &mut Seq<Lemma>,
+) -> Result<(), AllocError>
     requires race { pass.old.seat.table_id ≡ race.now.table.shared.table_id }
     requires base { (base_of S.state pass.old).base ≡ base_of_stack stack.now }
     requires heard { IsGrown (first_reading stack.now) (T.state theory.now).reading }
+    requires addable { AreAddable (T.state theory.now).reading lemmas.old }
     ensures same { IsSamePass pass.old pass.new }
     ensures adds { (es : _) × TakesOne (claim_of pass.old).worker es × Adds es 0 (claim_of pass.old) (claim_of pass.new) }
-    ensures addable { AreAddable (T.state theory.now).reading result }
+    ensures addable { AreAddable (T.state theory.now).reading lemmas.new }
+    ensures taken { OnOk result (TakesBatch (T.state theory.now).reading.table (base_of S.state pass.old) (claim_of pass.old) lemmas.old (claim_of pass.new) lemmas.new) }
 {
-    let Batch::Batch(entries) = race.take_batch(pass) else {
-        return Seq::new(alloc);
-    };
-    match take_entries(alloc, stack, theory, pass.worker, &entries) {
-        Ok(lemmas) => lemmas,
-        Err(_) => Seq::new(alloc),
+    match race.take_batch(pass) {
+        Batch::Batch(entries) => take_entries(alloc, stack, theory, pass.worker, &entries, lemmas),
+        Batch::Busy => Ok(()),
+        Batch::Memory => Ok(()),
     }
 }

@@ -1,10 +1,10 @@
 //! The search of one worker over the first clauses of a stack, and what the worker shows where it
 //! ends without an answer.
 //!
-//! `search`: from first clauses that force the clauses of the parts, any theory that was told
-//! nothing and shows how its atoms came, and any hook that is called between units: tables that
-//! make every assertion true, that there is no model, a report, or the number of the worker with
-//! which the hook stopped it.
+//! A search goes from first clauses that force the clauses of the parts, with any theory that was
+//! told nothing and shows how its atoms came, and any hook that is called between units. It ends
+//! with tables that make every assertion true, that there is no model, a report, or the number of
+//! the worker with which the hook stopped it.
 //!
 //! A worker has a number. Under a limit each keeps all clauses, and what it learns are units.
 //! Without one nothing that is learnt is a unit. There workers but the first may forget long
@@ -20,7 +20,8 @@
 //! answer exactly where it won; else it shows why it has none, or has read who won.
 //!
 //! A report shows as many units as the limit in force says, with the rows at which the theory
-//! branched; or where a number left the range; or want of memory. It takes no memory.
+//! branched; or where a number left the range; or want of memory. To write units out takes memory,
+//! and where it is wanting the report shows that. A report of want of memory takes none.
 //!
 //! A unit is an atom of the check that is none of the stack's and wasn't numbered before. Under a
 //! limit a learnt clause is one too: it follows at the depth of the stack, and nothing before it
@@ -32,8 +33,7 @@
 //!
 //! `out_of_memory`, `out_of_range`, `refused`: the reports of a worker that didn't come to search.
 //! Where its atoms are refused the report shows the part or the pair of parts whose folding left
-//! the range, and want of memory only where memory was wanting; so too on a stack with a numeral
-//! outside the range, which no commands make.
+//! the range, and want of memory only where memory was wanting.
 #![tactic(auto)]
 
 mod decide;
@@ -41,7 +41,6 @@ mod ending;
 mod export;
 mod import;
 mod limits;
-mod numerals;
 mod outcome;
 mod plain;
 mod racer;

@@ -1,6 +1,7 @@
 //! The limit of units in force.
 ghost use Rattle.std.specs.Prelude.{◌≡◌, not};
 ghost use Rattle.smt_meaning.specs.Report.{is_unlimited, most_units};
+ghost use Rattle.worker.specs.Shown.{may_forget};
 
 use smt_meaning::Settings;
 
@@ -12,6 +13,13 @@ pub(crate) fn has_limit(settings: &Settings) -> bool
     ensures { result ≡ not (is_unlimited settings.now.units) }
 {
     settings.units > 0
+}
+
+/// Whether the worker of this number may forget what it learns: under a limit none may, and the first one never.
+pub(crate) fn may_forget(settings: &Settings, worker: u8) -> bool
+    ensures { result ≡ may_forget settings.now.units worker }
+{
+    !has_limit(settings) & (worker > 0)
 }
 
 /// How many units of work a check may spend under the limit in force, of which 0 stands for none.

@@ -1,5 +1,5 @@
 //! A worker in a race, as what its search calls between two units.
-ghost use Rattle.std.specs.Prelude.{◌≡◌, ◌+◌, [], ◌∷◌, All, IfSome};
+ghost use Rattle.std.specs.Prelude.{◌≡◌, ◌+◌, [], ◌∷◌, All, IfSome, IfNone};
 ghost use Rattle.smt_meaning.specs.Stack.{depth};
 ghost use Rattle.search_port.specs.State.{IsGrown};
 ghost use Rattle.cdcl_core.specs.Search.{AreAddable, IsAddable};
@@ -41,11 +41,12 @@ pub(crate) struct Racer<'r, S: Shelf, G: Gate> {
 }
 
 /// One look at the winner.
-fn look<S: Shelf>(race: &Race<S>, pass: &mut Pass<S>) -> Option<u8>
+pub(crate) fn look<S: Shelf>(race: &Race<S>, pass: &mut Pass<S>) -> Option<u8>
     requires { pass.old.seat.table_id ≡ race.now.table.shared.table_id }
     ensures same { IsSamePass pass.old pass.new }
     ensures adds { Adds [] 1 (claim_of pass.old) (claim_of pass.new) }
     ensures found { IfSome result (λ w. (claim_of pass.new).found ≡ w + 1) }
+    ensures none { IfNone result ((claim_of pass.new).found ≡ 0) }
 {
     race.winner_seen(pass)
 }
@@ -93,7 +94,16 @@ impl<S: Shelf, G: Gate> Racer<'_, S, G> {
             return Between::Stop(Cause::Cancelled(winner));
         }
         self.share_next(budget, theory);
-        let lemmas = take_clauses(self.alloc, self.stack, self.race, &mut self.pass, theory);
+        let mut lemmas = Seq::new(self.alloc);
+        // Where memory is wanting, those that were numbered before stay.
+        let _ = take_clauses(
+            self.alloc,
+            self.stack,
+            self.race,
+            &mut self.pass,
+            theory,
+            &mut lemmas,
+        );
         self.given = Snapshot::of(&lemmas);
         Between::GoOn(lemmas)
     }

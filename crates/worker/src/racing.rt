@@ -1,5 +1,5 @@
 //! A worker's run.
-ghost use Rattle.std.specs.Prelude.{◌≡◌, ◌+◌, [], All, IfSome};
+ghost use Rattle.std.specs.Prelude.{◌≡◌, ◌+◌, [], All, IfSome, IfNone};
 ghost use Rattle.smt_meaning.specs.Stack.{depth};
 ghost use Rattle.smt_meaning.specs.Kinds.{has_no_integers};
 ghost use Rattle.search_port.specs.State.{IsGrown};
@@ -13,7 +13,7 @@ ghost use Rattle.worker.specs.Start.{IsStart};
 
 use crate::decide::{Found, search};
 use crate::outcome::{Answer, Outcome};
-use crate::racer::Racer;
+use crate::racer::{Racer, look};
 use cdcl_core::hook::{Between, Called};
 use clause_store::store::Store;
 use ports::Gate;
@@ -30,10 +30,12 @@ pub fn first_turn<S: Shelf, G: Gate>(race: &Race<S>, gate: &G, pass: &mut Pass<S
     requires { pass.old.seat.table_id ≡ race.now.table.shared.table_id }
     ensures same { IsSamePass pass.old pass.new }
     ensures claim { ((claim_of pass.new).worker ≡ (claim_of pass.old).worker) × ((claim_of pass.new).own ≡ (claim_of pass.old).own) }
+    ensures looks { (claim_of pass.new).looks ≡ (claim_of pass.old).looks + 1 }
     ensures found { IfSome result (λ w. (claim_of pass.new).found ≡ w + 1) }
+    ensures none { IfNone result ((claim_of pass.new).found ≡ 0) }
 {
     gate.turn(pass.worker, 0);
-    race.winner_seen(pass)
+    look(race, pass)
 }
 
 /// The worker's answer, if it is the first.

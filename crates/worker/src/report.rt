@@ -1,16 +1,13 @@
 //! The reports of workers that don't come to search.
-ghost use Rattle.std.specs.Prelude.{◌≡◌, [], All, IsTrue};
-ghost use Rattle.smt_meaning.specs.Term.{Tree};
+ghost use Rattle.std.specs.Prelude.{◌≡◌, []};
 ghost use Rattle.smt_meaning.specs.declared.reports.Cause.TheVariants.{Memory as OfMemory};
 ghost use Rattle.smt_meaning.specs.Report.{IsPastRange, Shows};
 ghost use Rattle.smt_laws.specs.Flat.{flat};
-ghost use Rattle.smt_laws.specs.Numerals.{numerals_fit};
 ghost use Rattle.check_atoms.specs.OfStack.{IsRefused};
 ghost use Rattle.worker.specs.Outcome.{IsReportOf, ReportsMemory};
 ghost use Rattle.worker.specs.Causes.{pair_seen, cause_of};
 
 use crate::nothing_leaves_range;
-use crate::numerals::numerals_fit;
 use bound_clauses::{Order, Sense};
 use check_atoms::{
     Refusal, lawful_limits_leave_range, lawful_pairs_leave_range, refused_term_leaves_range,
@@ -86,8 +83,7 @@ pub fn out_of_range(
     plain_report(alloc, stack, settings, worker, Cause::Range(seen))
 }
 
-/// The report of a worker whose atoms aren't numbered: it shows where folding left the range, or that memory was wanting. On a stack with a numeral outside the range, which no commands make, it shows
-/// want of memory. Without a limit and without an Int it shows want of memory alone.
+/// The report of a worker whose atoms aren't numbered: it shows where folding left the range, or that memory was wanting. Without a limit and without an Int it shows want of memory alone.
 pub fn refused(
     alloc: Global,
     stack: &Stack,
@@ -97,7 +93,7 @@ pub fn refused(
 ) -> Report
     requires { IsRefused stack.now refusal }
     ensures report { IsReportOf stack.now settings.now.units worker result }
-    ensures cause { All (λ (t : Tree). IsTrue (numerals_fit t)) stack.now.trees → result.cause ≡ cause_of refusal }
+    ensures cause { result.cause ≡ cause_of refusal }
     ensures memory { ReportsMemory stack.now.frames settings.now.units result }
 {
     stack.laws();
@@ -105,8 +101,5 @@ pub fn refused(
     refused_term_leaves_range();
     lawful_pairs_leave_range();
     lawful_limits_leave_range();
-    if !numerals_fit(stack.terms()) {
-        return out_of_memory(alloc, stack, settings, worker);
-    }
     plain_report(alloc, stack, settings, worker, cause_of(refusal))
 }

@@ -1,5 +1,6 @@
 //! Whole runs: words and a script in, bytes and a status out, over sources and sinks in memory.
 use ports::{CalmSink, CalmSource, MemSink, MemSource, More, OpenGate, Put, Sink, Source};
+use smt_meaning::language::{Entry, Error, Reply};
 use smt_top::{Note, run, run_within};
 use std::alloc::{AllocError, Global};
 use std::cell::Cell;
@@ -114,6 +115,14 @@ fn stops_at_the_budget(rt: HostRuntime) -> Result<(), Fail> {
     Ok(())
 }
 
+fn is_sat(entry: &Entry, number: u64) -> bool {
+    entry.number == number && matches!(entry.reply, Reply::Sat)
+}
+
+fn is_no_command(entry: &Entry, number: u64) -> bool {
+    entry.number == number && matches!(entry.reply, Reply::Error(Error::NotCommand))
+}
+
 #[test]
 fn keeps_the_journal(rt: HostRuntime) -> Result<(), Fail> {
     let alloc = rt.alloc();
@@ -121,7 +130,11 @@ fn keeps_the_journal(rt: HostRuntime) -> Result<(), Fail> {
     let mut source = CalmSource::new(b"(check-sat)(check-sat)x".to_vec(alloc)?, 3);
     let ended = run(&rt, alloc, &words, &mut source, &mut CalmSink, &OpenGate);
     assert_eq!(rt; ended.status, 1);
-    assert_eq!(rt; ended.journal.len(), 3);
+    let replies = ended.journal.as_slice();
+    assert_eq!(rt; replies.len(), 3);
+    assert!(rt; is_sat(&replies[0], 0));
+    assert!(rt; is_sat(&replies[1], 1));
+    assert!(rt; is_no_command(&replies[2], 2));
     Ok(())
 }
 

@@ -10,12 +10,12 @@ returns-in-Nothing-clause-stops c = λ e. no_number c.args.atoms.now.atoms c.arg
 
 pub returns-else-is_some-clause-goes : goal.returns-else-is_some-clause-goes
 returns-else-is_some-clause-goes c = λ e ps h.
-    let none : c.args.read.now.open ≡ None = search rules in
-    open_read c.args.atoms.now.atoms c.args.log.now ps c.args.read.now.clause.items c.args.read.now.open c.args.read.now.is_odd c.args.term c.in-Open.literal none c.in-Open.ensures h
+    let none : c.args.read.now.open_truth ≡ None = search rules in
+    open_read c.args.atoms.now.atoms c.args.log.now ps c.args.read.now.clause.items c.args.read.now.open_truth c.args.read.now.is_odd c.args.term c.in-Open.literal none c.in-Open.ensures h
 
 pub returns-in_ok-add_told-in-Told-clause-goes : goal.returns-in_ok-add_told-in-Told-clause-goes
 returns-in_ok-add_told-in-Told-clause-goes c = λ e ps h.
     let new = c.add_told.new.read in
-    let made = told_read c.args.atoms.now.atoms c.args.log.now ps c.args.read.now.clause.items c.args.read.now.open c.args.read.now.is_odd c.args.term c.in-Told.literal c.in-Told.ensures h in
-    read_same c.args.atoms.now.atoms c.args.log.now _ _ new.clause.items _ new.open _ new.is_odd (sym c.in_ok-add_told-in-Told.ensures.clause) (sym c.in_ok-add_told-in-Told.ensures.open)
+    let made = told_read c.args.atoms.now.atoms c.args.log.now ps c.args.read.now.clause.items c.args.read.now.open_truth c.args.read.now.is_odd c.args.term c.in-Told.literal c.in-Told.ensures h in
+    read_same c.args.atoms.now.atoms c.args.log.now _ _ new.clause.items _ new.open_truth _ new.is_odd (sym c.in_ok-add_told-in-Told.ensures.clause) (sym c.in_ok-add_told-in-Told.ensures.open)
     (sym c.in_ok-add_told-in-Told.ensures.odd) made

@@ -3,7 +3,6 @@ use Rattle.script_gen.specs.Script.{script}
 use Rattle.smt_meaning.specs.State.{State}
 use Rattle.smt_words.specs.Words.{are_taken, generated_of, settings_of}
 use Rattle.smt_words.specs.declared.Generated.{Generated}
-use Rattle.portfolio.specs.Taken.{every_stack}
 use Rattle.smt_top.specs.Progress.{Stands, between, run_of}
 use Rattle.smt_top.specs.Ended.{RanBy, ended_with, made_of}
 use Rattle.smt_top.proofs.Turns.{not_true}
@@ -24,7 +23,7 @@ pub drive-end-requires-clause-budget : goal.drive-end-requires-clause-budget
 drive-end-requires-clause-budget g c = c.requires
 
 pub drive-end-requires-clause-begun : goal.drive-end-requires-clause-begun
-drive-end-requires-clause-begun g c = begun every_stack c.in-Ok.invocation.settings _ _ (run_of c.new-server.result []) c.new-server.ensures.reader c.new-server.ensures.session refl
+drive-end-requires-clause-begun g c = begun c.in-Ok.invocation.settings _ _ (run_of c.new-server.result []) c.new-server.ensures.reader c.new-server.ensures.session refl
 
 pub drive-end-requires-clause-tally : goal.drive-end-requires-clause-tally
 drive-end-requires-clause-tally g c = c.new-server.ensures.tally
@@ -57,9 +56,9 @@ returns-in-None-clause-ran g c =
     record {
       journal = d.journal;
       ran =
-          subst (λ made. RanBy made every_stack c.args.budget words e ended) none
-          (ran every_stack c.args.budget words e (run_of c.drive-end.new.server d.journal) ended taken refl c.finish.ensures.note c.drive-end.result
-          (subst (λ t. Stands every_stack t c.drive-end.result e c.args.budget (run_of c.drive-end.new.server d.journal)) of_run d.stands) c.finish.ensures.status
+          subst (λ made. RanBy made c.args.budget words e ended) none
+          (ran c.args.budget words e (run_of c.drive-end.new.server d.journal) ended taken refl c.finish.ensures.note c.drive-end.result
+          (subst (λ t. Stands t c.drive-end.result e c.args.budget (run_of c.drive-end.new.server d.journal)) of_run d.stands) c.finish.ensures.status
           (λ over. let error = c.finish.ensures.error over in ((λ one. d.tally.faulty.0 (error.0 one)), (λ faulty. error.1 (d.tally.faulty.1 faulty)))));
       gained = d.gained;
       silent = d.silent;
@@ -99,10 +98,10 @@ returns-in-Some-clause-ran g c =
     record {
       journal = d.journal;
       ran =
-          subst (λ o. RanBy o every_stack c.args.budget words (between source sink source sink_now) ended) some
-          (ran_made every_stack words bytes (between source sink source sink_now) ended refl
-          (ran every_stack (length bytes + 1) words e (run_of c.serve_made-end.new.server d.journal) ended taken refl c.finish-in-Some.ensures.note c.serve_made-end.result
-          (subst (λ t. Stands every_stack t c.serve_made-end.result e (length bytes + 1) (run_of c.serve_made-end.new.server d.journal)) of_run d.stands) c.finish-in-Some.ensures.status
+          subst (λ o. RanBy o c.args.budget words (between source sink source sink_now) ended) some
+          (ran_made words bytes (between source sink source sink_now) ended refl
+          (ran (length bytes + 1) words e (run_of c.serve_made-end.new.server d.journal) ended taken refl c.finish-in-Some.ensures.note c.serve_made-end.result
+          (subst (λ t. Stands t c.serve_made-end.result e (length bytes + 1) (run_of c.serve_made-end.new.server d.journal)) of_run d.stands) c.finish-in-Some.ensures.status
           (λ over. let error = c.finish-in-Some.ensures.error over in ((λ one. d.tally.faulty.0 (error.0 one)), (λ faulty. error.1 (d.tally.faulty.1 faulty))))));
       gained = d.gained;
       silent = d.silent;
@@ -123,7 +122,7 @@ returns-in-Err-clause-ran g c =
     let words = map string_bytes c.args.words.now.items in
     record {
       journal = [];
-      ran = unbegun every_stack (generated_of words) c.args.budget words _ _ (ended_with c.unbegun.result []) c.in-Err.error c.unbegun.ensures.status c.in-Err.ensures.cause c.unbegun.ensures.note refl;
+      ran = unbegun (generated_of words) c.args.budget words _ _ (ended_with c.unbegun.result []) c.in-Err.error c.unbegun.ensures.status c.in-Err.ensures.cause c.unbegun.ensures.note refl;
       gained = Gains-none _;
       silent = λ none. refl;
       unread = λ no'. refl;

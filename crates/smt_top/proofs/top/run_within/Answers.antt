@@ -1,6 +1,5 @@
 use Rattle.std.proofs.Common.{sym, ap, ◌∙◌, subst, map, string_bytes}
 use Rattle.smt_meaning.specs.LegalJournal.{journal_text}
-use Rattle.portfolio.specs.Taken.{every_stack}
 use Rattle.smt_top.specs.Progress.{between}
 use Rattle.smt_top.specs.Ended.{RanUnder, ended_with}
 use Rattle.smt_top.proofs.Servings.{gained_all}
@@ -10,7 +9,7 @@ pub returns-clause-ran : goal.returns-clause-ran
 returns-clause-ran g c =
     let r = c.run_through-outcome.ensures.ran in
     let e = between (g.S.Source.told c.args.source.now) (g.K.Sink.told c.args.sink.now) (g.S.Source.told c.run_through-outcome.new.source) (g.K.Sink.told c.run_through-outcome.new.sink) in
-    subst (λ j. RanUnder every_stack c.args.budget (map string_bytes c.args.words.now.items) e (ended_with c.run_through-outcome.result j)) (gained_all _ _ _ c.new-journal.ensures r.gained) r.ran
+    subst (λ j. RanUnder c.args.budget (map string_bytes c.args.words.now.items) e (ended_with c.run_through-outcome.result j)) (gained_all _ _ _ c.new-journal.ensures r.gained) r.ran
 
 pub returns-clause-untouched : goal.returns-clause-untouched
 returns-clause-untouched g c no' =

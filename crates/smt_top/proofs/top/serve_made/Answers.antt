@@ -19,7 +19,7 @@ returns-in_err-text g c =
       gained = Gains-none _;
       tally = c.requires.tally;
       silent = λ none. refl;
-      stands = cut_unfed g.D.Decider.decides _ _ _ _ refl;
+      stands = cut_unfed _ _ _ _ refl;
     })
 
 pub feed-requires-clause-going : goal.feed-requires-clause-going
@@ -36,7 +36,7 @@ returns-in_err-feed g c =
       gained = Gains-none _;
       tally = tally_same c.args.server.now (record c.args.server.now { reader = c.feed.new.self }) refl refl [] c.requires.tally;
       silent = λ none. refl;
-      stands = cut_unfed g.D.Decider.decides _ _ _ _ refl;
+      stands = cut_unfed _ _ _ _ refl;
     })
 
 pub advance-requires-clause-may : goal.advance-requires-clause-may
@@ -60,7 +60,7 @@ returns g c =
     let mid = record c.args.server.now { reader = c.finish.new.self } in
     let told = g.K.Sink.told c.args.sink.now in
     let tally = tally_same c.args.server.now mid refl refl [] c.requires.tally in
-    let so = begun_whole g.D.Decider.decides c.args.server.now.session.settings (run_of mid []) bytes told er c.requires.session refl in
+    let so = begun_whole c.args.server.now.session.settings (run_of mid []) bytes told er c.requires.session refl in
     let p = c.advance.ensures.advances in
     record {
       journal = p.added;

@@ -47,7 +47,7 @@ pub keep_row-requires-clause-reached : goal.keep_row-requires-clause-reached
 keep_row-requires-clause-reached c =
     let s = c.args.parts.now.stack.now in
     let w = c.args.progress.now in
-    reached s w.atoms.atoms w.held c.requires.at_last.ready.under_way.1.held c.facts.ensures c.requires.fits (last_whole s w.lost w.atoms.atoms w.held.closure.log.items c.requires.at_last.ready.under_way.2 c.requires.at_last.last) c.fractions_hold.ensures.hold
+    reached s w.atoms.atoms w.held c.requires.at_last.ready.under_way.1.held c.facts.ensures c.requires.fits (last_whole s w.stopped_at w.atoms.atoms w.held.closure.log.items c.requires.at_last.ready.under_way.2 c.requires.at_last.last) c.fractions_hold.ensures.hold
     c.fractions_hold.ensures.values c.requires.constants c.args.leaf c.requires.first
 
 pub go_on_with_bound-requires-clause-new : goal.go_on_with_bound-requires-clause-new
@@ -56,7 +56,7 @@ go_on_with_bound-requires-clause-new c =
     let w = c.args.progress.now in
     let leaf = c.args.leaf in
     let none : Contains w.atoms.atoms (term_at_most leaf.term leaf.floor) → ⊥ =
-    has_no_number s w.atoms.atoms w.held c.requires.at_last.ready.under_way.1.held c.facts.ensures c.requires.fits (last_whole s w.lost w.atoms.atoms w.held.closure.log.items c.requires.at_last.ready.under_way.2 c.requires.at_last.last) leaf c.sides_are_open.ensures
+    has_no_number s w.atoms.atoms w.held c.requires.at_last.ready.under_way.1.held c.facts.ensures c.requires.fits (last_whole s w.stopped_at w.atoms.atoms w.held.closure.log.items c.requires.at_last.ready.under_way.2 c.requires.at_last.last) leaf c.sides_are_open.ensures
     c.requires.first in
     subst (λ (as_now : Atoms). Contains as_now.atoms (AtMost c.in-Ok.bound.sum.items c.in-Ok.bound.threshold) → ⊥) (sym c.keep_row.ensures.atoms)
     (subst (λ (a : Atom). Contains w.atoms.atoms a → ⊥) (sym c.in-Ok.ensures.side) none)

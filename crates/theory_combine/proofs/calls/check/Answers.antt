@@ -20,7 +20,7 @@ pub returns-in-None-clause-found : goal.returns-in-None-clause-found
 returns-in-None-clause-found c =
     let p = c.args.parts.now in
     let new = c.judge.new.progress in
-    checked_with (state p new) (variables_of new.lost new.held.bounds) c.args.budget.now c.judge.new.budget c.judge.result c.judge.ensures.found
+    checked_with (state p new) (variables_of new.stopped_at new.held.bounds) c.args.budget.now c.judge.new.budget c.judge.result c.judge.ensures.found
 
 pub judge-requires : goal.judge-requires
 judge-requires c = record {

@@ -20,7 +20,7 @@ pub returns-in-None-clause-found : goal.returns-in-None-clause-found
 returns-in-None-clause-found c =
     let p = c.args.parts.now in
     let new = c.infer_more.new.progress in
-    inferred_with (state p new) (variables_of new.lost new.held.bounds) c.args.budget.now c.infer_more.new.budget c.infer_more.result c.infer_more.ensures.found
+    inferred_with (state p new) (variables_of new.stopped_at new.held.bounds) c.args.budget.now c.infer_more.new.budget c.infer_more.result c.infer_more.ensures.found
 
 pub infer_more-requires : goal.infer_more-requires
 infer_more-requires c = to_ready c.args.parts.now c.args.progress.now c.requires.parts c.requires.progress c.in-None.is

@@ -46,7 +46,7 @@ returns-in-Ok-clause-progress c =
     let new : IsWhole s marks w.atoms held = record { setting = whole.setting; marked = whole.marked; held = c.tell_both-told.ensures.held; variables = leaves_same s marks w.held.bounds held.bounds c.tell_both-told.ensures.variables.sums whole.variables } in (
       c.requires.progress.0,
       subst (λ (o : Option ℕ). IsNumbered s marks o w.atoms held) (sym c.in-None.is) new,
-      subst (λ (xs : List (List Summand)). AreShown s xs w.branches w.seen (table_of w.lost w.atoms.atoms)) (sym c.tell_both-told.ensures.variables.sums) c.requires.progress.2,
+      subst (λ (xs : List (List Summand)). AreShown s xs w.branches w.seen (table_of w.stopped_at w.atoms.atoms)) (sym c.tell_both-told.ensures.variables.sums) c.requires.progress.2,
     )
 
 pub returns-in-Err-clause-answer : goal.returns-in-Err-clause-answer
@@ -54,18 +54,18 @@ returns-in-Err-clause-answer c =
     let s = c.args.parts.now.stack.now in
     let w = c.args.progress.now in
     let held = c.tell_both-told.new.held in
-    let same : variables_of w.lost held.bounds ≡ variables_of w.lost w.held.bounds = variables_same w.lost w.held.bounds held.bounds c.tell_both-told.ensures.variables in
-    ap (λ (ls : List Signed). with_variables (state_of s (table_of w.lost w.atoms.atoms) ls) (variables_of w.lost held.bounds)) c.in-Err.ensures.stays
-    ∙ ap (with_variables (state_of s (table_of w.lost w.atoms.atoms) w.held.closure.log.items)) same
+    let same : variables_of w.stopped_at held.bounds ≡ variables_of w.stopped_at w.held.bounds = variables_same w.stopped_at w.held.bounds held.bounds c.tell_both-told.ensures.variables in
+    ap (λ (ls : List Signed). with_variables (state_of s (table_of w.stopped_at w.atoms.atoms) ls) (variables_of w.stopped_at held.bounds)) c.in-Err.ensures.stays
+    ∙ ap (with_variables (state_of s (table_of w.stopped_at w.atoms.atoms) w.held.closure.log.items)) same
 
 pub returns-in-Ok-clause-answer : goal.returns-in-Ok-clause-answer
 returns-in-Ok-clause-answer c =
     let s = c.args.parts.now.stack.now in
     let w = c.args.progress.now in
     let held = c.tell_both-told.new.held in
-    let same : variables_of w.lost held.bounds ≡ variables_of w.lost w.held.bounds = variables_same w.lost w.held.bounds held.bounds c.tell_both-told.ensures.variables in
-    let here : AssertedBy (state_of s (table_of w.lost w.atoms.atoms) w.held.closure.log.items) (state_of s (table_of w.lost w.atoms.atoms) held.closure.log.items) c.args.literal c.in-Ok.answer =
+    let same : variables_of w.stopped_at held.bounds ≡ variables_of w.stopped_at w.held.bounds = variables_same w.stopped_at w.held.bounds held.bounds c.tell_both-told.ensures.variables in
+    let here : AssertedBy (state_of s (table_of w.stopped_at w.atoms.atoms) w.held.closure.log.items) (state_of s (table_of w.stopped_at w.atoms.atoms) held.closure.log.items) c.args.literal c.in-Ok.answer =
     subst (λ (o : Option ℕ). AssertedBy (state_of s (table_of o w.atoms.atoms) w.held.closure.log.items) (state_of s (table_of o w.atoms.atoms) held.closure.log.items) c.args.literal c.in-Ok.answer) (sym c.in-None.is)
     c.in-Ok.ensures.answer in
-    asserted_with (state_of s (table_of w.lost w.atoms.atoms) w.held.closure.log.items) (state_of s (table_of w.lost w.atoms.atoms) held.closure.log.items) (variables_of w.lost w.held.bounds) (variables_of w.lost held.bounds)
+    asserted_with (state_of s (table_of w.stopped_at w.atoms.atoms) w.held.closure.log.items) (state_of s (table_of w.stopped_at w.atoms.atoms) held.closure.log.items) (variables_of w.stopped_at w.held.bounds) (variables_of w.stopped_at held.bounds)
     c.args.literal c.in-Ok.answer same here

@@ -21,7 +21,7 @@ returns-in-None-clause-progress c =
     let new : IsWhole s marks w.atoms held = record { setting = whole.setting; marked = whole.marked; held = c.undo_both.ensures.held; variables = leaves_same s marks w.held.bounds held.bounds c.undo_both.ensures.variables.sums whole.variables } in (
       c.requires.progress.0,
       subst (λ (o : Option ℕ). IsNumbered s marks o w.atoms held) (sym c.in-None.is) new,
-      subst (λ (xs : List (List Summand)). AreShown s xs w.branches w.seen (table_of w.lost w.atoms.atoms)) (sym c.undo_both.ensures.variables.sums) c.requires.progress.2,
+      subst (λ (xs : List (List Summand)). AreShown s xs w.branches w.seen (table_of w.stopped_at w.atoms.atoms)) (sym c.undo_both.ensures.variables.sums) c.requires.progress.2,
     )
 
 pub returns-in-None-clause-undone : goal.returns-in-None-clause-undone
@@ -29,5 +29,5 @@ returns-in-None-clause-undone c =
     let s = c.args.parts.now.stack.now in
     let w = c.args.progress.now in
     let held = c.undo_both.new.held in
-    ap (λ (ls : List Signed). with_variables (state_of s (table_of w.lost w.atoms.atoms) ls) (variables_of w.lost held.bounds)) c.undo_both.ensures.log
-    ∙ ap (with_variables (state_of s (table_of w.lost w.atoms.atoms) (take c.args.count w.held.closure.log.items))) (variables_same w.lost w.held.bounds held.bounds c.undo_both.ensures.variables)
+    ap (λ (ls : List Signed). with_variables (state_of s (table_of w.stopped_at w.atoms.atoms) ls) (variables_of w.stopped_at held.bounds)) c.undo_both.ensures.log
+    ∙ ap (with_variables (state_of s (table_of w.stopped_at w.atoms.atoms) (take c.args.count w.held.closure.log.items))) (variables_same w.stopped_at w.held.bounds held.bounds c.undo_both.ensures.variables)

@@ -1,7 +1,6 @@
-use Rattle.std.proofs.Common.{ℕ, ◌<◌}
-use Rattle.std.specs.Prelude.{slice_index_or}
-use Rattle.theory_combine.specs.Settling.{AreTellable}
+use Rattle.std.proofs.Common.{ℕ, ◌-◌, ◌<◌, ◌≤◌}
+use Rattle.theory_combine.specs.ByValue.{argument_at, AreTellableAt}
 use Rattle.theory_combine.proofs.distincts.unnumbered_before.Given as goal
 
-abbrev pub invariant-loop-earlier : goal.invariant-loop-earlier
-invariant-loop-earlier l = (j : ℕ) → j < l.earlier → AreTellable l.parts l.progress l.given (slice_index_or l.arguments j 0) (slice_index_or l.arguments l.later 0)
+abbrev pub invariant-loop-back : goal.invariant-loop-back
+invariant-loop-back l = (a : ℕ) → l.later - l.back ≤ a → a < l.later → AreTellableAt l.parts l.progress l.given l.arguments (argument_at l.ints a) (argument_at l.ints l.later)

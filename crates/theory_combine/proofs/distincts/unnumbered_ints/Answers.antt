@@ -1,4 +1,4 @@
-use Rattle.std.proofs.Common.{◌+◌, ◌<◌, ◌≤◌, ℕ, List, length, get_or, sym, ap, subst, arith}
+use Rattle.std.proofs.Common.{rules, ◌+◌, ◌<◌, ◌≤◌, ℕ, List, length, get_or, sym, ap, subst, arith}
 use Rattle.std.proofs.lemmas.List.{get_or_default}
 use Rattle.theory_combine.specs.Settling.{HasTellableInts}
 use Rattle.theory_combine.proofs.Settling.{more_hold}
@@ -10,9 +10,10 @@ loop-place-preserved c =
     let ps : List ℕ = c.deref-place-items.result.now in
     let at = c.loop-place.place-index in
     let less : at < length ps = c.loop-place-test.true in
+    let one : Holds (get_or ps at 0) = search rules in
     let before : (j d : ℕ) → j < at → Holds (get_or ps j d) = subst (λ (qs : List ℕ). (j d : ℕ) → j < at → Holds (get_or qs j d)) (sym c.deref-place-items.ensures.value) c.loop-place.invariant in
     subst (λ (qs : List ℕ). (j d : ℕ) → j < at + 1 → Holds (get_or qs j d)) c.deref-place-items.ensures.value
-    (more_hold Holds ps at (get_or ps at 0) less (get_or_default ps at 0 (get_or ps at 0) less) c.in-None.ensures.none before)
+    (more_hold Holds ps at (get_or ps at 0) less (get_or_default ps at 0 (get_or ps at 0) less) one before)
 
 pub returns-clause-none : goal.returns-clause-none
 returns-clause-none c = λ j d less.

@@ -7,7 +7,7 @@ use Rattle.bound_log.specs.Pending.{plain_grid}
 use Rattle.theory_combine.specs.Chained.{BoundsAreSaid}
 use Rattle.theory_combine.specs.Numbering.{atom_of}
 use Rattle.theory_combine.specs.Shown.{AreShown, IsLeft}
-use Rattle.theory_combine.proofs.Going.{shown_longer, shown_push, shown_seen, went_still, went_lost, went_on}
+use Rattle.theory_combine.proofs.Going.{shown_longer, shown_push, shown_seen, went_still, went_stopping, went_on}
 use Rattle.theory_combine.proofs.Past.{error_left, seen_left}
 use Rattle.theory_combine.proofs.Sums.{sums_added}
 use Rattle.theory_combine.proofs.numbering.number_new.Goals as goal
@@ -29,7 +29,7 @@ returns-in-Err-clause-went c =
     subst (λ (o : Option RangeSeen). IfSome o (IsLeft s sums w.branches)) (sym c.seen_of.ensures)
     (seen_left s sums w.branches c.in-Err.error
     (error_left s sums w.branches w.seen (w.atoms.atoms ++ a ∷ []) (shown_push s sums w.branches w.seen w.atoms.atoms a here c.requires.to_show) c.in-Err.error c.in-Err.ensures.err)) in
-    went_lost c.args.parts.now w c.args.budget.now c.args.budget.now c.len-count.result c.add-added.new.atoms c.add-added.new.held c.seen_of.result (shown_seen s sums w.branches w.seen c.seen_of.result w.atoms.atoms here left)
+    went_stopping c.args.parts.now w c.args.budget.now c.args.budget.now c.len-count.result c.add-added.new.atoms c.add-added.new.held c.seen_of.result (shown_seen s sums w.branches w.seen c.seen_of.result w.atoms.atoms here left)
     grows c.requires.under_way c.len-count.ensures.count c.add-added.ensures.front c.add-added.ensures.within c.add-added.ensures.log (let r = c.room.ensures in omega arith) refl
 
 pub returns-in-Err-spend-clause-went : goal.returns-in-Err-spend-clause-went
@@ -42,7 +42,7 @@ returns-in-Err-spend-clause-went c =
     let known = sums_added s (column_sums w.held.bounds) w.branches w.seen w.atoms.atoms a b c.requires.under_way.3 c.requires.to_show c.add-added.ensures.columns (c.sums_are_apart.ensures b c.facts.ensures) in
     let here : AreShown s (column_sums b) w.branches w.seen w.atoms.atoms = shown_longer s (column_sums w.held.bounds) grows.more (column_sums b) w.branches w.seen w.atoms.atoms grows.sums known c.requires.under_way.3 in
     let same : c.spend.new.self ≡ c.args.budget.now = search rules in
-    went_lost c.args.parts.now w c.args.budget.now c.spend.new.self c.len-count.result c.add-added.new.atoms c.add-added.new.held w.seen here grows c.requires.under_way c.len-count.ensures.count
+    went_stopping c.args.parts.now w c.args.budget.now c.spend.new.self c.len-count.result c.add-added.new.atoms c.add-added.new.held w.seen here grows c.requires.under_way c.len-count.ensures.count
     c.add-added.ensures.front c.add-added.ensures.within c.add-added.ensures.log (let r = c.room.ensures in omega arith) same
 
 pub returns-in-Ok-spend-clause-went : goal.returns-in-Ok-spend-clause-went

@@ -15,9 +15,9 @@ pub number_new-requires-clause-of_stack : goal.number_new-requires-clause-of_sta
 number_new-requires-clause-of_stack c =
     let s = c.args.parts.now.stack.now in
     let marks = c.args.parts.now.marks.items in
-    let marked = pair_is_marked s marks c.args.pair.left c.args.pair.right c.requires.low.wanted.left c.requires.low.wanted.right in
+    let marked = pair_is_marked s marks c.args.pair.left c.args.pair.right c.requires.wanted.left c.requires.wanted.right in
     record {
-      terms = (c.requires.low.wanted.left.within, c.requires.low.wanted.right.within);
+      terms = (c.requires.wanted.left.within, c.requires.wanted.right.within);
       declared = marked_is_of c.symbols_are_declared.ensures c.flat_says_the_same.ensures s marks c.requires.ready.parts.0 (Same c.args.pair.left c.args.pair.right) marked;
       marked = marked;
       proper = tt;
@@ -25,8 +25,8 @@ number_new-requires-clause-of_stack c =
 
 pub number_new-requires-clause-to_show : goal.number_new-requires-clause-to_show
 number_new-requires-clause-to_show c =
-    same_to_show c.flat_says_the_same.ensures c.args.parts.now.stack.now c.args.parts.now.marks.items c.requires.ready.parts.2.only c.requires.ready.under_way.0.different c.args.pair.left c.args.pair.right c.requires.low.wanted.left
-    c.requires.low.wanted.right c.args.progress.now.branches
+    same_to_show c.flat_says_the_same.ensures c.args.parts.now.stack.now c.args.parts.now.marks.items c.requires.ready.parts.2.only c.requires.ready.under_way.0.different c.args.pair.left c.args.pair.right c.requires.wanted.left
+    c.requires.wanted.right c.args.progress.now.branches
 
 pub tie_lemmas-requires-clause-same : goal.tie_lemmas-requires-clause-same
 tie_lemmas-requires-clause-same c =
@@ -44,7 +44,7 @@ returns-in-Ok-tie_lemmas c =
       found = (
         subst (λ (o : Option ℕ). All (IsLemma (state_of s (table_of o new.atoms.atoms) new.held.closure.log.items).reading) c.in-Ok-tie_lemmas.lemmas) (sym c.in-Ok.ensures.kept)
             (tied_lemmas c.flat_says_the_same.ensures c.value_has_its_sort.ensures s marks c.args.progress.now.atoms new.atoms new.held c.args.pair.left c.args.pair.right c.len-same.result
-            c.args.low c.args.high c.in-Ok-tie_lemmas.lemmas whole c.in-Ok.ensures.added c.len-same.ensures.count c.requires.low.wanted.left c.requires.low.wanted.right c.requires.low.at c.requires.high
+            c.args.low c.args.high c.in-Ok-tie_lemmas.lemmas whole c.in-Ok.ensures.added c.len-same.ensures.count c.requires.wanted.left c.requires.wanted.right c.requires.low c.requires.high
             c.in-Ok-tie_lemmas.ensures.lemmas),
         omega (arith, c.in-Ok.ensures.spent),
       );

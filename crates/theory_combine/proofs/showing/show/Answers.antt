@@ -8,6 +8,6 @@ returns c =
       sums = shown.sums_known;
       branches = shown.branches;
       atoms = shown.atoms;
-      different = own_numbers c.args.progress.lost c.args.progress.atoms.atoms c.are_apart.ensures;
+      different = own_numbers c.args.progress.stopped_at c.args.progress.atoms.atoms c.are_apart.ensures;
       seen = shown.seen;
     }

@@ -1,5 +1,4 @@
-use Rattle.std.proofs.Common.{◌≤◌, subst, sym, ap, [], false, All, length, arith, ◌≡◌, ◌&&◌, not}
-use Rattle.std.specs.Prelude.{nat_lt}
+use Rattle.std.proofs.Common.{◌≤◌, subst, sym, ap, [], false, All, length, arith, ◌≡◌, ◌∙◌}
 use Rattle.std.proofs.lemmas.List.Elements.{All-nil}
 use Rattle.search_port.specs.State.{Reading, TheoryState, IsGrown}
 use Rattle.search_port.specs.Spending.{Spending}
@@ -10,7 +9,7 @@ use Rattle.cdcl_core.specs.Search.{IsAddable}
 use Rattle.cdcl_core.specs.declared.solve.Outcome.TheVariants.{Ended as OutcomeEnded}
 use Rattle.cdcl_core.specs.Turns.{EndsSearch, PivotsAtEnd, Searches}
 use Rattle.worker.proofs.Deciding.{fresh, heard, heard_from, tables_for, holds, fit}
-use Rattle.worker.proofs.Showing.{budget_of, frames_stay, kept_all, of_numbers, shows_units, trees_stay}
+use Rattle.worker.proofs.Showing.{budget_of, frames_stay, of_numbers, shows_units, trees_stay}
 use Rattle.worker.proofs.decide.search.Goals as goal
 
 pub solve-requires-clause-hears : goal.solve-requires-clause-hears
@@ -67,7 +66,7 @@ all_spent-requires-clause-spent g c =
     let before : TheoryState = g.T.Theory.state c.args.theory in
     let after : TheoryState = g.T.Theory.state c.solve.new.theory in
     λ may_not.
-    let kept : (nat_lt 0 c.args.worker && not c.has_limit-limited.result) ≡ false = kept_all c.args.settings.now.units c.has_limit-limited.result (nat_lt 0 c.args.worker) c.has_limit-limited.ensures may_not in
+    let kept : c.may_forget-forgets.result ≡ false = c.may_forget-forgets.ensures ∙ may_not in
     shows_units (record { as_written = c.follows_as_written.ensures; by_numbers = c.forces_by_numbers.ensures; in_turn = c.forces_in_turn.ensures; flatly = c.flat_says_the_same.ensures }) s c.args.store
     c.solve.new.store c.laws.ensures c.args.settings.now.units (g.T.Theory.state c.args.theory) after c.new-budget.result c.solve.new.budget c.requires.start.first c.requires.start.all c.requires.start.reading c.requires.start.pivots
     (budget_of c.args.settings.now.units c.new-budget.result c.units_within-limit.result _ _ _ c.new-budget.ensures kept c.units_within-limit.ensures c.has_limit-limited.ensures)

@@ -1,5 +1,4 @@
 use Rattle.std.proofs.Common.{◌≡◌, ℕ, List, map, subst, sym, ap, ◌∙◌, refl}
-use Rattle.std.specs.Prelude.{nat_lt}
 use Rattle.smt_meaning.specs.declared.reports.Unit.{Unit as ShownUnit}
 use Rattle.smt_meaning.specs.declared.reports.Cause.TheVariants.{Units}
 use Rattle.smt_meaning.specs.Stack.{depth}
@@ -7,7 +6,6 @@ use Rattle.smt_meaning.specs.Report.{Shows}
 use Rattle.search_port.specs.State.{Reading}
 use Rattle.search_port.specs.declared.budget.Spent.{Spent}
 use Rattle.worker.specs.Shown.{unit_of}
-use Rattle.worker.proofs.Showing.{may_not}
 use Rattle.worker.proofs.ending.all_spent.Goals as goal
 
 pub returns-clause-report : goal.returns-clause-report
@@ -21,5 +19,5 @@ returns-clause-report g c =
     let same : c.in-Ok.units ≡ map (unit_of q.table (depth s.frames)) c.args.budget.units = c.in-Ok.ensures ∙ deep ∙ spent in (
       refl,
       subst (λ (us : List ShownUnit). Shows s.trees s.frames c.args.settings.now.units c.show-shown.result.branches (Units us)) (sym same)
-          (c.requires.spent (may_not c.args.settings.now.units c.has_limit-limited.result (nat_lt 0 c.args.worker) c.has_limit-limited.ensures c.if-forgets.false) c.show-shown.result c.show-shown.ensures),
+          (c.requires.spent (sym c.if-may_forget.ensures) c.show-shown.result c.show-shown.ensures),
     )

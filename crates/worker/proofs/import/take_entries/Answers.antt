@@ -8,7 +8,7 @@ pub loop-entry-preserved : goal.loop-entry-preserved
 loop-entry-preserved g c =
     let table = (g.T.Theory.state c.args.theory.now).reading.table in
     record {
-      addable = c.in_ok-take_entry.ensures.addable;
+      addable = c.take_entry.ensures.addable;
       taken = All-more (IsTaken table c.args.worker c.take_entry.new.lemmas) c.args.entries.now c.loop-entry.entry-index c.entry-item.result c.loop-entry-test.true
           (All-weaker (IsTaken table c.args.worker c.loop-entry.lemmas) (IsTaken table c.args.worker c.take_entry.new.lemmas)
           (λ e h few other may. ((h few other may).0, c.in_ok-take_entry.ensures.stay _ (h few other may).1, (h few other may).2)) (take c.loop-entry.entry-index c.args.entries.now) c.loop-entry.invariant.taken)

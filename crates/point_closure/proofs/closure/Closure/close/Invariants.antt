@@ -9,7 +9,6 @@ abbrev pub invariant-pairs : goal.invariant-pairs
 invariant-pairs l = record {
   whole : IsClosure l.self;
   keeps : Keeps l.fn.self l.self;
-  pairs : l.self.pairs.items ≡ l.fn.self.pairs.items;
   stands : Stands l.self.graph l.self.steps.items (state_of l.self) l.self.pending.items [] 0;
   done : (k : ℕ) (d : Pending) → k < l.head → k < length l.self.pending.items → root_of l.self.classes.unions (get_or l.self.pending.items k d).left ≡ root_of l.self.classes.unions (get_or l.self.pending.items k d).right;
 }

@@ -35,7 +35,7 @@ returns-clause-ok g c =
     let s = c.self.inside in
     let xs = c.assertions-below.result.now in
     let texts = c.in_ok-texts.texts in
-    assumptions_answered g.D.Decider.decides c.args.self.now c.core.new.self xs (length xs) texts c.in_ok-texts-2.texts c.deref.result.now c.in_ok-held.held
+    assumptions_answered c.args.self.now c.core.new.self xs (length xs) texts c.in_ok-texts-2.texts c.deref.result.now c.in_ok-held.held
     (ap (λ (t : State). is_unsat t.mode) (sym c.self.view_is) ∙ sym c.is_unsat.ensures ∙ c.if-not-is_unsat.false)
     (ap (λ (t : State). t.options.produce_unsat_assumptions) (sym c.self.view_is) ∙ c.if-not-self.false)
     c.in_ok-held.ensures.stays

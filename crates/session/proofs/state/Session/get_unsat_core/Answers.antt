@@ -33,7 +33,7 @@ returns-clause-ok g c =
     let t : State = c.args.self.now in
     let xs = c.assertions.result.now in
     let ys = c.assertions-2.result.now in
-    core_answered g.D.Decider.decides t c.core.new.self xs ys c.deref.result.now c.in_ok-held.held c.in_ok-names.names
+    core_answered t c.core.new.self xs ys c.deref.result.now c.in_ok-held.held c.in_ok-names.names
     (ap (λ (u : State). is_unsat u.mode) (sym c.self.view_is) ∙ sym c.is_unsat.ensures ∙ c.if-not-is_unsat.false)
     (ap (λ (u : State). u.options.produce_unsat_cores) (sym c.self.view_is) ∙ c.if-not-self.false)
     c.in_ok-held.ensures.stays

@@ -1,4 +1,4 @@
-use Rattle.std.proofs.Common.{◌∙◌, ap, [], rules}
+use Rattle.std.proofs.Common.{◌∙◌, ap, []}
 use Rattle.smt_meaning.specs.declared.answers.Mode.TheVariants as In
 use Rattle.smt_meaning.specs.declared.settings.Settings.{Settings}
 use Rattle.smt_meaning.specs.State.{State}
@@ -6,18 +6,18 @@ use Rattle.session.specs.Logics.{named}
 use Rattle.session.proofs.Replies.{minimum_ok}
 use Rattle.session.proofs.state.Session.minimize.Goals as goal
 
-pub enter-requires-clause-refuted : goal.enter-requires-clause-refuted
-enter-requires-clause-refuted g c = c.in-Ok.ensures.sought.minimized.refuted
+pub conclude-requires-clause-refuted : goal.conclude-requires-clause-refuted
+conclude-requires-clause-refuted g c = c.in-Ok.ensures.sought.minimized.refuted
 
-pub enter-requires-clause-above : goal.enter-requires-clause-above
-enter-requires-clause-above g c = c.in-Ok.ensures.sought.minimized.above.again.within
+pub conclude-requires-clause-above : goal.conclude-requires-clause-above
+conclude-requires-clause-above g c = c.in-Ok.ensures.sought.minimized.above.again.within
 
 pub returns-in-Ok-clause-ok : goal.returns-in-Ok-clause-ok
 returns-in-Ok-clause-ok g c =
     let s = c.self.inside in
     let mid : State = record { settings = s.settings; logic = named s.logic; mode = In.Assert; options = s.options; stack = c.minimize_under.new.stack; above = [] } in
-    minimum_ok g.D.Decider.decides c.args.self.now mid s.stack c.minimize_under.new.stack c.args.text.now c.in_force-settings.result.workers c.in_force-settings.result.units c.in-Ok.assumed _ _ c.enter.new.self
+    minimum_ok c.args.self.now mid s.stack c.minimize_under.new.stack c.args.text.now c.in_force-settings.result.workers c.in_force-settings.result.units c.in-Ok.assumed _ _ c.conclude.new.self
     (ap (λ (t : State). t.stack) c.self.view_is) c.in-Ok.ensures.sought
     (ap (λ (x : Settings). x.workers) c.in_force-settings.ensures ∙ ap (λ (t : State). t.settings.workers) c.self.view_is)
     (ap (λ (x : Settings). x.units) c.in_force-settings.ensures ∙ ap (λ (t : State). t.options.reproducible_resource_limit) c.self.view_is)
-    (ap (λ (t : State). record t { mode = In.Assert; stack = c.minimize_under.new.stack; above = [] }) c.self.view_is) (search rules) (search rules) (search rules)
+    (ap (λ (t : State). record t { mode = In.Assert; stack = c.minimize_under.new.stack; above = [] }) c.self.view_is) c.conclude.ensures.state c.conclude.ensures.reply c.conclude.ensures.kept

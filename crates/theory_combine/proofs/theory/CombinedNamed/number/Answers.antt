@@ -10,4 +10,4 @@ returns-else-number-atoms-clause-none c =
     let none : Past c.args.self.now = let count = c.atoms.ensures.atoms in let not_below = c.if-number-atoms.false in omega arith in
     let past = subst Past (sym c.self.view_is) none in
     subst (λ (s : TheoryState). Contains s.reading.table c.args.atom.now → ⊥) c.self.view_is
-    (beyond w.lost w.atoms.atoms c.in_ok-number.number c.args.atom.now c.are_apart.ensures c.in_ok-number.ensures.some past)
+    (beyond w.stopped_at w.atoms.atoms c.in_ok-number.number c.args.atom.now c.are_apart.ensures c.in_ok-number.ensures.some past)

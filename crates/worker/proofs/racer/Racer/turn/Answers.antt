@@ -8,5 +8,5 @@ returns-in-Some-clause-turned g c =
 
 pub returns-clause-turned : goal.returns-clause-turned
 returns-clause-turned g c =
-    turned (depth c.args.self.now.stack.now.frames) c.args.self.now.pass c.look.new.pass c.share_next.new.self.pass c.take_clauses-lemmas.new.pass c.args.self.now.sent c.share_next.new.self.sent c.args.budget.now
-    c.look.ensures.same c.look.ensures.adds c.share_next.ensures.same c.share_next.ensures.shares c.take_clauses-lemmas.ensures.same c.take_clauses-lemmas.ensures.adds
+    turned (depth c.args.self.now.stack.now.frames) c.args.self.now.pass c.look.new.pass c.share_next.new.self.pass c.take_clauses.new.pass c.args.self.now.sent c.share_next.new.self.sent c.args.budget.now
+    c.look.ensures.same c.look.ensures.adds c.share_next.ensures.same c.share_next.ensures.shares c.take_clauses.ensures.same c.take_clauses.ensures.adds

@@ -1,7 +1,0 @@
--- Which checks are answered.
-use Rattle.std.specs.Prelude.{true}
-use Rattle.smt_meaning.specs.MayReply.{Decided}
-
--- those of every stack
-abbrev pub every_stack : Decided
-every_stack frames = true

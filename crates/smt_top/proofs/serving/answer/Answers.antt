@@ -1,9 +1,0 @@
-use Rattle.std.proofs.Common.{sym, ◌∙◌}
-use Rattle.smt_top.proofs.Answering.{replied, refused}
-use Rattle.smt_top.proofs.serving.answer.Goals as goal
-
-pub returns-in-Ok-clause-reply : goal.returns-in-Ok-clause-reply
-returns-in-Ok-clause-reply g c = replied g.D.Decider.decides _ _ _ _ _ (sym c.in-Ok.is ∙ c.in_ok-command.ensures) c.step.ensures.reply
-
-pub returns-in-Err-clause-reply : goal.returns-in-Err-clause-reply
-returns-in-Err-clause-reply g c = refused g.D.Decider.decides _ _ _ (sym c.in-Err.is ∙ c.in_ok-command.ensures)
