@@ -6,14 +6,11 @@ use Rattle.smt_meaning.specs.declared.terms.Head.{Head}
 use Rattle.smt_meaning.specs.declared.terms.Head.TheVariants.{Theory}
 use Rattle.smt_meaning.specs.declared.terms.Operator.TheVariants.{And, Or, Xor, Equal, Add, Subtract, Multiply, AtMost, Less, AtLeast, Greater, Divide}
 use Rattle.std.specs.Prelude.{◌||◌, ◌+ℤ◌, ◌-ℤ◌, ◌*ℤ◌, int_le, int_lt}
-use Rattle.smt_meaning.specs.Term.{Tree, Interpretation, value, fits, apply, head_fits, operate, in_range, all_in_range, partials, partials_of, left_assoc, on_truths, on_numbers, xor, same_value, compare, int_ge, int_gt, quotient}
+use Rattle.smt_meaning.specs.Term.{Interpretation, apply, head_fits, operate, in_range, all_in_range, partials, partials_of, left_assoc, on_truths, on_numbers, xor, same_value, compare, int_ge, int_gt, quotient}
 
 abbrev pub some_if : Bool → Value → Option Value
 some_if true v = Some v
 some_if false v = None
-
-abbrev pub fitted : Interpretation → Tree → Option Value
-fitted I t = some_if (fits I t) (value I t)
 
 abbrev pub fitted_head : Interpretation → Head → List Value → Option Value
 fitted_head I h vs = some_if (head_fits I h vs) (apply I h vs)

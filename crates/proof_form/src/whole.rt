@@ -214,7 +214,6 @@ fn judge_lists(
     if let Some(number) = add_terms(alloc, symbols, proof, ends, lists.terms, terms)? {
         return Ok(Found::Node(number));
     }
-    terms.fold()?;
     judge_steps(alloc, proof, ends, lists.steps, terms, asserted)
 }
 

@@ -76,13 +76,6 @@ impl<'a> Terms<'a> {
             .add(self.stack, node.head, node.arguments.as_slice())
     }
 
-    /// Folds the linear forms of all terms.
-    pub fn fold(&mut self) -> Result<(), AllocError>
-        ensures { self.new ≡ self.old }
-    {
-        self.table.forms.cover(&self.table.distinct.store)
-    }
-
     /// How many terms there are.
     pub fn len(&self) -> usize
         ensures count { result ≡ length self.now.nodes }
