@@ -138,12 +138,12 @@ pub found_wrong : (frames : List Frame) (x : Sexp) (terms steps : Sexps) (sig : 
     → NodesCome t.declared t.held (listed terms) u (Some n) → IsWrongNode frames x n
 found_wrong frames x terms steps sig held t u n first same lists h = found_node frames x terms steps t.declared t.held n u (ap (λ (v : ProofTerms). v.declared) first ∙ sym same) lists h
 
-pub found_rest : (frames : List Frame) (x : Sexp) (terms steps : Sexps) (sig : List Declaration) (held : List Tree) (t u v : ProofTerms) (is : List ℕ) (r : Result Found AllocError)
+pub found_rest : (frames : List Frame) (x : Sexp) (terms steps : Sexps) (sig : List Declaration) (held : List Tree) (t u : ProofTerms) (is : List ℕ) (r : Result Found AllocError)
     → t ≡ record { declared = sig; held = held; nodes = []; trees = [] } → signature_of frames ≡ sig → lists_of x ≡ Some (terms, steps)
-    → NodesCome t.declared t.held (listed terms) u None → v ≡ u → asserted_at held is ≡ assertions_of frames
-    → IfOk r (StepsCome v (asserted_at v.held is) (listed steps)) → IfOk r (IsFound frames x)
-found_rest frames x terms steps sig held t u v is (Ok found) first same lists h again asserted come =
-    let own : AreAdded t.declared t.held (listed terms) [] h.0 v = subst (λ (w : ProofTerms). AreAdded t.declared t.held (listed terms) [] h.0 w) (sym again) h.1 in
-    found_steps frames x terms steps t.declared t.held h.0 v (asserted_at v.held is) found (ap (λ (w : ProofTerms). w.declared) first ∙ sym same)
+    → NodesCome t.declared t.held (listed terms) u None → asserted_at held is ≡ assertions_of frames
+    → IfOk r (StepsCome u (asserted_at u.held is) (listed steps)) → IfOk r (IsFound frames x)
+found_rest frames x terms steps sig held t u is (Ok found) first same lists h asserted come =
+    let own : AreAdded t.declared t.held (listed terms) [] h.0 u = h.1 in
+    found_steps frames x terms steps t.declared t.held h.0 u (asserted_at u.held is) found (ap (λ (w : ProofTerms). w.declared) first ∙ sym same)
     (ap (λ (ts : List Tree). asserted_at ts is) (own.held_is ∙ ap (λ (w : ProofTerms). w.held) first) ∙ asserted) lists own come
-found_rest frames x terms steps sig held t u v is (Err e) first same lists h again asserted come = tt
+found_rest frames x terms steps sig held t u is (Err e) first same lists h asserted come = tt

@@ -1,4 +1,4 @@
-use Rattle.std.proofs.Common.{sym, ap, refl}
+use Rattle.std.proofs.Common.{sym, ap}
 use Rattle.smt_meaning.specs.Sexp.{sexp}
 use Rattle.look_ahead.specs.Ahead.{ahead}
 use Rattle.proof_terms.specs.Terms.{ProofTerms}
@@ -18,5 +18,5 @@ pub returns : goal.returns
 returns c = λ frames same asserted.
     let t = c.args.terms.now in
     let ts = c.args.proof.now in
-    found_rest frames (sexp ts) (ahead ts c.args.lists.terms) (ahead ts c.args.lists.steps) t.declared t.held t c.add_terms.new.terms c.add_terms.new.terms c.args.asserted.now c.judge_steps.result c.requires.none same c.requires.lists.read
-    (rw c.in_default.is at c.in_ok-number.ensures) refl (sym asserted) c.judge_steps.ensures
+    found_rest frames (sexp ts) (ahead ts c.args.lists.terms) (ahead ts c.args.lists.steps) t.declared t.held t c.add_terms.new.terms c.args.asserted.now c.judge_steps.result c.requires.none same c.requires.lists.read
+    (rw c.in_default.is at c.in_ok-number.ensures) (sym asserted) c.judge_steps.ensures
