@@ -1,4 +1,7 @@
 //! Bounds by number, each once.
+//!
+//! Bounds have a table of their own, by the number of their sum and their threshold: the table of
+//! all atoms is made of it and of that of truths and equalities.
 ghost use Rattle.std.specs.Prelude.{◌≡◌, ◌+◌, ◌<◌, ◌^◌, [], ◌∷◌, ◌++◌, length, map, take, Contains, OnOk, OnErr, IfOk, IfSome, IfNone};
 ghost use Rattle.atom_form.specs.BoundTableHash.{bound_hash};
 ghost use Rattle.atom_form.specs.Numbering.{IsAt, Numbered, IsTable, AreApart};

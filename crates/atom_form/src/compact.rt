@@ -1,4 +1,7 @@
 //! Atoms of two kinds, with their hash: the truth of a term, and the equality of two.
+//!
+//! `Same(s, t)` and `Same(t, s)` are two atoms, as in the definition of a stack's atoms; so is
+//! `Same(t, t)` one. Numbers of atoms are below 2^31, as literals pack them.
 ghost use Rattle.std.specs.Prelude.{◌≡◌, ◌↔◌, IsTrue};
 ghost use Rattle.atom_form.specs.Compact.{atom_hash};
 

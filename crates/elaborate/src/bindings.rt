@@ -1,4 +1,16 @@
 //! The names that are bound where a term stands.
+//!
+//! Why names are filed: those of one `let`, the parameters of one definition and the variables
+//! where a term stands are found by their hashes, in the term store's index, so a wide `let` or
+//! definition takes time linear in its letters. The definitions stay: the first name that stood
+//! before, from left to right, and the newest binding. Of names that stand twice, in the bindings
+//! of a `let` or the parameters of a definition, the refusal names the first that stood before,
+//! from left to right: of x y y x it is y. One definition serves both. 2^32 names and more of one
+//! term count as want of memory. Only the names that a `let` hides inside a named term that stands
+//! under variables are still compared one by one.
+//!
+//! A variable of `let` hides every function of its name, the theories' too; as the head of a list
+//! it is `E14`.
 ghost use Rattle.std.specs.Prelude.{◌≡◌, ◌++◌, ◌∷◌, [], drop, length, OnOk, OnErr};
 ghost use Rattle.elaborate.specs.Frames.{find_value};
 ghost use Rattle.elaborate.specs.Filed.{bound_hashes};

@@ -1,4 +1,13 @@
 //! Definitions, with arguments put in for their parameters (SMT-LIB 2.6, section 4.2.3).
+//!
+//! Why all that was judged is kept: a definition keeps all terms that were judged in its body, with
+//! parameters as places, and which of them it is. So a name that the body used may go, and a
+//! product that isn't linear is refused where the definition is used, also where it stands in a
+//! `let` that the body doesn't use.
+//!
+//! Why its terms go in one after another, in the order in which they were judged in its body: each
+//! is stored with its arguments' places, so no term is walked as a tree. Its body is a list of
+//! nodes in parts, which several bodies may share.
 ghost use Rattle.std.specs.Prelude.{◌≡◌, ◌<◌, ◌++◌, [], map, length, All, IfOk, OnOk, OnErr, Some, List};
 ghost use Rattle.smt_meaning.specs.declared.nodes.Node.{Node as NodeValue};
 ghost use Rattle.smt_meaning.specs.Nodes.{AreNodes, AreNodesAfter, joined, trees_of as terms_of};

@@ -1,4 +1,9 @@
 //! The head of a list.
+//!
+//! Why `(_ divisible n)` is looked at whole before anything of the application is judged: a list of
+//! any other form, or with 0, is wrong arguments, and then a number past the range is told. Nothing
+//! of it is a term: its symbol hides nothing and is hidden by nothing, and nothing of it is free.
+//! Its numeral joins the terms all the same, as the second argument of the tree.
 ghost use Rattle.std.specs.Prelude.{◌≡◌, ◌+◌, ◌≤◌, List, [], map, length, Some, IfOk, OnErr};
 ghost use Rattle.smt_meaning.specs.declared.tokens.Token.{Token as TokenValue};
 ghost use Rattle.smt_meaning.specs.Seen.{seen};

@@ -1,4 +1,7 @@
 //! Terms in which `:named` gives names.
+//!
+//! Why a variable may not be bound outside: a variable "bound outside" a named term is one that
+//! occurs free in its text. Whether a term is open is asked only where a name comes.
 ghost use Rattle.std.specs.Prelude.{◌≡◌, ◌+◌, ◌<◌, ◌≤◌, ◌∷◌, [], List, None, true, drop, length, map, IfOk, IfErr, OnOk};
 ghost use Rattle.smt_meaning.specs.declared.tokens.Token.{Token as TokenValue};
 ghost use Rattle.smt_meaning.specs.Seen.{seen};

@@ -1,4 +1,15 @@
 //! An operator applied to arguments, with the quotients that its term has.
+//!
+//! Why a quotient is a part as any other: in the tree of `(mod a n)` and of `((_ divisible n) a)`
+//! the quotient `(div a n)` is the last argument, and of a divisibility the numeral n the second.
+//! So it is counted, marked, copied, a leaf of the check, and its equalities with other Int parts
+//! are among the atoms that a check may have. That the last argument is the quotient is part of
+//! being linear, which every tree of a stack is. Their values are by the first two.
+//!
+//! `div` by several divisors is the `div` of a `div`, as the standard's `:left-assoc` says: in a
+//! tree a division has one divisor, so each partial one is an ordinary part, a leaf and a row of
+//! its own. Where a script has both `(div a m n)` and `(div (div a m) n)` they are one term, also
+//! for the limit of terms.
 ghost use Rattle.std.specs.Prelude.{◌≡◌, [], ◌∷◌, List, map, pos, true, IfOk, OnErr};
 ghost use Rattle.smt_meaning.specs.Term.{Tree, node, none, more, tree_at};
 ghost use Rattle.smt_meaning.specs.TreeShape.{operation, quotient_tree, divided_from, with_parts};

@@ -1,5 +1,12 @@
 //! A definition that is used in the body of the next one, with its parameters put in for themselves: where the terms that are stored so far are its
 //! first ones, all of them are there as they stand, and are not put in again where the definition is used once more.
+//!
+//! Why: the store in which the newest definition was judged is kept beside the table of names
+//! (`smt_sorts`, `workshop`), and a body that uses that definition with its own parameters in order
+//! goes on in it. So a chain of such definitions costs little more than its length. Where a
+//! definition is used after other terms, with other arguments, or isn't the newest one, all its
+//! terms are put in, and a chain of these costs the square of its length. No contract of the
+//! language shows the difference.
 ghost use Rattle.std.specs.Option.{is_some};
 ghost use Rattle.std.specs.Prelude.{◌≡◌, ◌<◌, ◌||◌, map, length, true, None, Some, IsTrue, IfSome};
 ghost use Rattle.smt_meaning.specs.declared.tokens.Token.{Token};

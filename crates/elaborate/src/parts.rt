@@ -1,4 +1,8 @@
 //! The body of a name that `:named` gives (SMT-LIB 2.6, section 5.2): a stored term with its parts, as terms of its own.
+//!
+//! Why: a name that a term gives keeps the term's parts as nodes of its own, copied without
+//! recursion. Copying gives want of memory where a growth was refused, and where the parts are more
+//! than 4,294,967,295.
 ghost use Rattle.std.specs.Prelude.{◌≡◌, ◌<◌, ◌∷◌, [], List, All, length, map, nat_eq, ℕ, Some, IfOk, IsSome, OnOk, None};
 ghost use Rattle.std.specs.HashMap.{get};
 ghost use Rattle.std.specs.Map.{update};

@@ -1,4 +1,7 @@
 //! Terms of one token.
+//!
+//! A string token as a term is `E13` with the literal as written, its quotes doubled. A keyword or
+//! a reserved word alone is `E8`.
 ghost use Rattle.std.specs.Prelude.{◌≡◌, map};
 ghost use Rattle.smt_meaning.specs.declared.tokens.Token.{Token};
 ghost use Rattle.smt_meaning.specs.Seen.{seen};

@@ -1,4 +1,14 @@
 //! Terms are given to the terms around them.
+//!
+//! Why one pass does: a term is judged in one pass over its tokens, with a frame for each term that
+//! is open. The forms of `let` and `!` are looked at before their terms, by the ends of lists,
+//! which are found in one pass over the whole term.
+//!
+//! Each call of the walk over a term is made where the newest frame is one that it takes, and all
+//! frames below that one wait for a term. So the walk gives want of memory where a growth was
+//! refused, at the limits of the numbers of terms and of names, and where lists stand 2^64 deep
+//! inside a head that divides or an attribute, more than any input has bytes; no clause says that
+//! this isn't reached.
 ghost use Rattle.std.specs.Prelude.{◌≡◌, ◌∷◌, List, None, true, drop, IfOk, OnOk, OnErr};
 ghost use Rattle.elaborate.specs.declared.frame.Binding.{Binding as BindingValue};
 ghost use Rattle.elaborate.specs.Frames.{outside, waits, AllWait};

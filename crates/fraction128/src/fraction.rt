@@ -1,4 +1,11 @@
 //! Fractions in lowest terms.
+//!
+//! A difference of fractions is the sum with the negation, and names that sum's steps. `gcd` of 0
+//! and 0 is 0.
+//!
+//! Why there is no `Ord` on fractions: a fraction is seen as its numerator and its denominator, a
+//! whole number and a natural one; the public struct `Ratio` is that pair. `cmp` is a method of
+//! their own.
 #![tactic(auto)]
 
 ghost use Rattle.std.specs.Prelude.{◌≡◌, ℕ, ◌*◌, ◌<◌, ◌^◌, pos, ◌+ℤ◌, ◌-ℤ◌, ◌*ℤ◌, ◌<ℤ◌, ◌≤ℤ◌, unsigned_abs, IfOk, OnOk, IfErr, IsTrue, ◌↔◌, ◌≢◌, Some, None};

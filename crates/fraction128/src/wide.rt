@@ -1,4 +1,7 @@
 //! An exact sum of products, in digits of 32 bits, and its sign.
+//!
+//! Why sums are in digits: `dot` works in seven places of 32 bits, carried after each pair, so that
+//! it needs no bound on the number of pairs.
 ghost use Rattle.std.specs.Prelude.{◌≡◌, ℕ, ℤ, ◌+◌, ◌*◌, ◌<◌, ◌≤◌, ◌^◌, length, pos, ◌+ℤ◌, ◌*ℤ◌, int_lt, unsigned_abs};
 ghost use Rattle.fraction128.specs.Dot.{dot_of};
 ghost use Rattle.fraction128.specs.Wide.{base, four_value, seven_value, AreSmall, AreFourWithin, HasGrown, AreSevenWithin};

@@ -1,5 +1,14 @@
 //! The pool: clauses in the order in which they were shared, with who shared them. It keeps no
 //! history of the race; that is told by the contract of `race_cell` alone.
+//!
+//! Why a pool keeps no list of events: a race of many turns has one batch a turn and worker, and
+//! such a list would grow without end. The history of a race is told by the contract of `Race::end`
+//! and exists in the proofs alone; the pool keeps the entries and the workers that have ended.
+//!
+//! Why the pool doesn't copy declarations and assertions: it remembers the stack that it was shown
+//! last (a snapshot of no bytes, which proofs alone read) and how many of its levels still stand.
+//! `push` and `assert` take the stack that they lead to, in place of the declarations and the term,
+//! and what they do is the event; `follow` stands for any number of these, `pop` and `cut_to` cut.
 ghost use Rattle.std.specs.Prelude.{◌≡◌, ◌+◌, ◌-◌, ◌≤◌, false, [], All, IfOk, OnOk, length, min, vec_len, vec_capacity};
 ghost use Rattle.smt_meaning.specs.Stack.{depth};
 ghost use Rattle.race_model.specs.declared.event.Entry.{Entry};

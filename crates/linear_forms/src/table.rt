@@ -1,4 +1,9 @@
 //! The linear forms of the terms of a store, by their places.
+//!
+//! Why: a numeral of the store may be any number of 128 bits, -2^127 among them, which is outside
+//! the range: by the definition its own form fits, and what adds it is judged exactly. So linear
+//! forms are folded by checked steps over all of these numbers. Forms are folded for all terms of
+//! the store up to the last one, asked for or not.
 ghost use Rattle.std.specs.Prelude.{◌≡◌, ◌+◌, ◌<◌, ◌≤◌, ◌++◌, [], ◌∷◌, length, max, take, All, OnOk, OnErr, IfOk, IfErr, IfSome, IfNone, Some, None};
 ghost use Rattle.term_store.specs.Terms.{AreDifferent};
 ghost use Rattle.linear_forms.specs.Folding.{form_of};

@@ -1,4 +1,8 @@
 //! The form of a head that divides.
+//!
+//! The head `(_ divisible n)` is looked at whole before anything of the application is judged:
+//! nothing of it is a term, so its symbol hides nothing and is hidden by nothing, and nothing of it
+//! is free.
 ghost use Rattle.std.specs.Prelude.{◌≡◌, Some, None, IfSome, IfNone};
 ghost use Rattle.smt_meaning.specs.Sorts.{decimal, head_number};
 ghost use Rattle.look_ahead.specs.Ahead.{ahead, AreEnds};

@@ -1,4 +1,8 @@
 //! The values of a term's parts, in the order of their numbers.
+//!
+//! Evaluating terms passes once over the numbers up to the greatest of theirs, down to mark their
+//! parts and up to evaluate them. `Range` names the least sub-term, in numbering, that fails by
+//! itself. Terms that are no sub-terms don't count.
 ghost use Rattle.std.specs.Prelude.{◌≡◌, ◌+◌, ◌<◌, [], length, map, slice_index, All, IsTrue, IfOk, IfErr, OnOk, if◌then◌else◌};
 ghost use Rattle.smt_meaning.specs.Term.{tree_at, all_in_range};
 ghost use Rattle.smt_meaning.specs.Interpretation.{meaning};

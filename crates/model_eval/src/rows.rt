@@ -1,4 +1,7 @@
 //! The rows of a table, found by a hash of their arguments.
+//!
+//! Why the term store's index of hashes and not a map keyed by a list of values: that index has the
+//! contract that is needed, the value types need no hash of their own, and no key is copied.
 ghost use Rattle.std.specs.Prelude.{◌≡◌, ◌+◌, ◌<◌, ◌^◌, length, slice_get, IfOk, IfSome};
 ghost use Rattle.smt_meaning.specs.Interpretation.{same_values, look};
 ghost use Rattle.model_eval.specs.Rows.{values_state, values_hash, row_hashes, is_scanned};

@@ -1,4 +1,8 @@
 //! The value that a function of an interpretation has at some arguments.
+//!
+//! Why: each call makes an index of the interpretation's tables by symbol. A table of 8 rows or
+//! more is filed once a call by the hash of each row's arguments, and fewer rows are looked through
+//! in order, since a hash costs more than a few comparisons, and most functions have few rows.
 ghost use Rattle.std.specs.Prelude.{◌≡◌, ◌<◌, ◌≤◌, ℕ, Some, length, take, drop, All, nat_eq, slice_get, IfOk, OnOk, IfSome, IsTrue, MatchOption};
 ghost use Rattle.std.specs.HashMap.{get};
 ghost use Rattle.smt_meaning.specs.declared.values.Table.{Table as TableValue};

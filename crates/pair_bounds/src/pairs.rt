@@ -1,4 +1,9 @@
 //! The bounds that compare two terms.
+//!
+//! `s < t` folds to the constant minus one: it is the bound that the difference is at most minus
+//! one, and where that number leaves the range, comparing the two does. A pair of Int terms folds
+//! exactly where the term that subtracts them does; `s < t` also needs its threshold in the range,
+//! else it is the pair's failure.
 ghost use Rattle.std.specs.Prelude.{◌≡◌, ◌<◌, length, true, IfOk, IfErr, IfSome, IfNone, List, pos, ◌-ℤ◌, neg_ℤ};
 ghost use Rattle.fraction128.specs.Whole.{InRange};
 ghost use Rattle.smt_meaning.specs.Term.{Tree};

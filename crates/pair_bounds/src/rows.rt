@@ -1,4 +1,10 @@
 //! The rows of divisions over places, and their bounds in normal form.
+//!
+//! Why one table: the clauses of a division are a table of rows over multiples of terms, one table
+//! for trees and for places. A limit's form is folded from the right; each multiple, each sum so
+//! far, and the number that bounds the sum stay in the range, or the term's clause leaves it (a
+//! report of range at the term). The rows of a `mod` and of a divisibility begin with those of
+//! their quotient, so a check has these twice.
 ghost use Rattle.std.specs.Prelude.{◌≡◌, ◌<◌, ◌++◌, List, pos, length, map, All, OnOk, IfOk, IfErr, IfSome, IfNone, ◌-ℤ◌, Some, None};
 ghost use Rattle.fraction128.specs.Whole.{InRange};
 ghost use Rattle.smt_meaning.specs.Term.{Tree};

@@ -1,4 +1,8 @@
 //! Bounds of sums that are turned so that the first coefficient is positive.
+//!
+//! Why: a sum is turned so that its first coefficient is positive; a bound on the negated sum is a
+//! bound of the other side of the same variable. A bound that doesn't hold bounds the sum from the
+//! other side by the next number, and that number may leave the range.
 ghost use Rattle.std.specs.Prelude.{◌≡◌, ℕ, true, List, negsuc, ◌*ℤ◌};
 ghost use Rattle.fraction128.specs.Whole.{InRange};
 ghost use Rattle.smt_meaning.specs.declared.clauses.Atom.TheVariants.{AtMost as BoundAtom};

@@ -1,4 +1,8 @@
 //! Counts of calls, of 64 bits, which stand still at their end.
+//!
+//! A count of faults or of calls has 64 bits and stands still at its end. A list of failing calls
+//! that holds 2^64-1 then fails each later one. So do the counts of calls that gave a byte and of a
+//! sink's calls.
 ghost use Rattle.std.specs.Prelude.{◌≡◌, ◌≤◌};
 ghost use Rattle.ports.specs.Flow.{raised};
 ghost use Rattle.ports.specs.Memory.{fails_next};

@@ -1,4 +1,25 @@
 //! Proofs: terms, and steps that each give a clause.
+//!
+//! Why terms are told apart as they are: a term may stand twice among a proof's terms, and literals
+//! are compared by the numbers of terms. The leaf of a linear form is the first term that is the
+//! same tree. The heads of a proof's terms are operators, declared symbols, numerals up to 2^127 -
+//! 1 and `(_ divisible n)`; definitions and names are put in before, so none is a head. The numbers
+//! of terms and of steps have no range: one that is too large to be any is simply not there, and
+//! the step isn't by its rule.
+//!
+//! Why a clause's form is free: it is a set, so what `res` gives may list its literals in any order
+//! and more than once, and the literal that is resolved on is gone from both sides. `(not ..)`
+//! stands around an atom alone. A step's clause must be over the proof's terms, of the right sorts:
+//! `(refl i)` with no term i, or `(sym i j)` of two sorts, isn't by its rule; `cong` asks for one
+//! head and as many arguments.
+//!
+//! Why bounds have more than one form: the summands of a bound may stand in any order, and the
+//! literal is the one with its leaves ascending; no leaf stands twice, no coefficient is 0, and `(-
+//! 0)` isn't a number as values print. The bounds of `link` are the difference as it is folded, not
+//! divided; those that are parts of a comparison are in normal form, divided and rounded. `round`
+//! and `farkas` lead from one to the other. The multipliers of `farkas` are fractions, not
+//! necessarily in lowest terms; the definition has them as whole weights over one denominator, so
+//! that it speaks of whole numbers alone.
 use smt_meaning::{Literal, Node, Seq, TermId};
 
 /// The number of a step of a proof, from 0.

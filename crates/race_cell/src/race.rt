@@ -1,4 +1,7 @@
 //! The race and its passes.
+//!
+//! Why: the count of shares and batches goes round at 2^64; the contracts speak of the history, not
+//! of the word.
 ghost use Rattle.std.specs.Prelude.{◌≡◌};
 ghost use Rattle.race_cell.specs.Rules.{claim};
 ghost use Rattle.race_cell.specs.Calls.{mark_of, IsAlone};

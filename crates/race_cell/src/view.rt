@@ -1,4 +1,7 @@
 //! What a seat knows. No value of these is made.
+//!
+//! Why: a pass keeps counts of Busy answers, of slots given back and of looks in what it knows, so
+//! that a body that always answers Busy or Memory, or never looks, is refused.
 use crate::action::Action;
 use std::collections::LinkedList;
 

@@ -1,4 +1,6 @@
 //! Comparing and copying clauses.
+//!
+//! A clause is compared with its literals in their order.
 ghost use Rattle.std.specs.Prelude.{◌≡◌, ◌≢◌, MatchBool, IfOk, Contains};
 ghost use Rattle.race_model.specs.Race.{clauses_of};
 

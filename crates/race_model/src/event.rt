@@ -1,4 +1,8 @@
 //! The events of a race.
+//!
+//! Why a premise is told by two numbers: a premise of a learnt clause that is an assertion is named
+//! by its level and its place there, so that equal texts of two levels are told apart. In a run the
+//! list of terms may go on from one race to the next; a clause reads the same.
 use smt_meaning::{Clause, Declaration, SExpr, Seq, TermId};
 
 /// A clause that a worker shared.

@@ -1,4 +1,12 @@
 //! The state of a race, and its steps.
+//!
+//! Why a race's state says whether declarations are global, which no event changes: an assertion's
+//! declarations join level 0 then, its names and the assertion itself the newest level, both or
+//! neither. A pool is told so while it stands on no level.
+//!
+//! Of new declarations no id stands in the signature or twice in the addition.
+//!
+//! `step` takes memory, so it answers a Result; an Err changes nothing.
 ghost use Rattle.std.specs.Prelude.{◌≡◌, ◌++◌, length, map, IfOk, OnErr, OnOk, MatchBool, All};
 ghost use Rattle.race_model.specs.declared.event.Event.TheVariants.{Learn, Share, TakeBatch, Win, End, Push, Pop, Assert};
 ghost use Rattle.race_model.specs.Race.{state_of, Owes, StepTells, IsRunning, Supports, cut_worker, clauses_below, entries_below};

@@ -1,4 +1,8 @@
 //! Names: symbols, keywords and texts (SMT-LIB 2.6, section 3.1).
+//!
+//! The text of a symbol that a reply prints is decided by its bytes alone: a name of a command, and
+//! each further reserved word of the standard, stands between bars. `minimize` is no word of the
+//! standard, so as a symbol it prints without bars.
 ghost use Rattle.std.specs.Prelude.{◌≡◌, ◌++◌, ◌||◌, ◌==◌, map, length, OnOk};
 ghost use Rattle.std.specs.List.{list_all};
 ghost use Rattle.smt_meaning.specs.Reading.{is_digit as is_digit_byte, is_letter as is_letter_byte, is_sign as is_sign_byte, is_symbol_byte as is_symbol, is_simple_symbol};

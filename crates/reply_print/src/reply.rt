@@ -1,4 +1,7 @@
 //! The text of a whole reply: what each kind of reply prints, and its line feed.
+//!
+//! Why: a reply is written into a line of its own and then appended, so want of memory leaves the
+//! output as it was.
 ghost use Rattle.std.specs.Prelude.{◌≡◌, ◌↔◌, ◌++◌, [], ◌∷◌, map, IsSome, IfSome, OnOk, OnErr};
 ghost use Rattle.smt_meaning.specs.Text.{text as text_of, listed};
 ghost use Rattle.reply_print.specs.Texts.{HasFixedText, error_reply_text, minimum_text};

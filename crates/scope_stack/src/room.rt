@@ -1,4 +1,11 @@
 //! Terms that weren't judged for want of room or memory.
+//!
+//! Why a term may be judged twice: where the terms would be more than 4,294,967,295, a command is
+//! refused with `E25`, after its other refusals. A term for which there is no room among the terms
+//! of the stack is judged once more in a list of its own, which tells its refusals and its sort:
+//! judging doesn't depend on the terms before. Whether there are too many is then counted exactly.
+//! The price is paid only where room or memory is wanting. A term that alone has more different
+//! parts than that is want of memory.
 ghost use Rattle.std.specs.Prelude.{◌≡◌, [], length};
 ghost use Rattle.elaborate.specs.Judged.{IsCauseOf};
 ghost use Rattle.smt_meaning.specs.Sexp.{sexp};

@@ -1,4 +1,8 @@
 //! The arguments of a command, taken off a list of tokens one after another.
+//!
+//! Why: a sort is kept as it is written by its symbol, and whether it stands alone or begins a
+//! list: a list is always refused by its first symbol. A list in the place of a sort whose first
+//! token is a reserved word is `E8`.
 ghost use Rattle.std.specs.Prelude.{◌≡◌, ◌+◌, ◌^◌, ◌∷◌, ◌<◌, ◌≤◌, Some, drop, length, slice_range, IfOk, OnOk, OnSome, IfSome, IfNone, IsTrue};
 ghost use Rattle.std.specs.Option.{option_map, option_copied};
 ghost use Rattle.smt_meaning.specs.Reading.{IsSExpr, IsInner};

@@ -1,4 +1,7 @@
 //! The one call: which command an s-expression is, in the order of its refusals.
+//!
+//! `declare-sort` with a number other than 0, and `define-sort` with parameters, are accepted and
+//! change nothing; they are answered `unsupported`.
 ghost use Rattle.std.specs.Prelude.{◌≡◌, IfOk};
 ghost use Rattle.smt_meaning.specs.Command.{command};
 ghost use Rattle.smt_meaning.specs.Sexp.{sexp};

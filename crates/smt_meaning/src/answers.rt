@@ -1,5 +1,13 @@
 //! Replies, with all that their texts print, the modes of a run, and the entries of a journal
 //! (SMT-LIB 2.6, section 4.1).
+//!
+//! A success that isn't printed is a reply of its own, so that the text of a journal is the text of
+//! its replies. A reply without text makes no call of the sink.
+//!
+//! The mode carries the kept model, so no model outlives its mode. `unknown`, and why, have their
+//! texts; after it the mode holds the reason alone; the reports go to the journal's entry and
+//! aren't kept twice. It is the standard's sat mode without a model, and a mode of its own in the
+//! types, so no value has to say that there is no model.
 use crate::errors::Error;
 use crate::options::{Info, OptionValue, UnknownReason};
 use crate::replies::Kept;

@@ -1,4 +1,8 @@
 //! Sums, atoms, literals and clauses.
+//!
+//! Why the atoms of a check are wider than those of the stack: any two parts of the assertions of
+//! one sort may be compared, not those of Int alone, since a search over uninterpreted sorts
+//! numbers such equalities too.
 use crate::seq::Seq;
 use crate::terms::TermId;
 

@@ -1,4 +1,13 @@
 //! Commands, as they are read from an s-expression alone (SMT-LIB 2.6, section 4.2).
+//!
+//! Why a command is read from an s-expression alone: what needs no state is decided there: forms,
+//! numerals past 128 bits where they aren't terms, unknown options and information, output channels
+//! other than those that are there, and what is left out, which are all one command, `LeftOut`,
+//! answered `unsupported`.
+//!
+//! What a command does on the stack is judged from the command, a type of its own; how an
+//! s-expression is read as a command is apart. `get-value` is one of the stack's commands, as its
+//! terms join the list of judged trees, which is what the limit of terms counts.
 use crate::options::{InfoName, OptionName, OptionSetting};
 use crate::seq::{Bytes, Seq};
 use crate::tokens::{Inner, SExpr};

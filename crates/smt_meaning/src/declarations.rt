@@ -1,4 +1,13 @@
 //! What is declared or defined under a name (SMT-LIB 2.6, section 4.2.3).
+//!
+//! Why a declaration has no field for its level: its level is the number of the frame that holds
+//! it; a second statement of the same fact could only disagree with the first.
+//!
+//! Why a body is a list of trees: a definition's body is a tree, with the list of the trees that
+//! were judged in it, and nothing in the definitions says where a body's nodes are kept. Code may
+//! keep all bodies in one store with parameters as places, and a name that `:named` gives as a
+//! place of the terms' store. `Declaration` and `Body` are for values that cross a border; bodies
+//! share their terms, in parts.
 ghost use Rattle.std.specs.Prelude.{◌≡◌, ◌<◌, true, false, length, Some, None, IfSome, IfNone};
 ghost use Rattle.smt_meaning.specs.Term.{tree_at};
 ghost use Rattle.smt_meaning.specs.Signature.{is_symbol};

@@ -1,4 +1,7 @@
 //! Errors, with all that their texts print (SMT-LIB 2.6, section 4.1.1).
+//!
+//! An error found in a command's arguments carries the command's name, which only E8 prints. E11
+//! and E21 carry the option and not its spelling.
 use crate::options::OptionName;
 use crate::refusals::Refusal;
 use crate::seq::Bytes;

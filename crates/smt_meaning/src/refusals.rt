@@ -1,4 +1,10 @@
 //! Why a term, or a command that works on the stack, is refused.
+//!
+//! Why a refusal of an unknown symbol carries the token, not its bytes: `1.5` and `|1.5|`, `(forall
+//! 1)` and `(|forall| 1)`, `"a"` and `|"a"|` have different texts, so they are different refusals.
+//!
+//! `E25` is two refusals, for terms and for symbols. That for terms is judged after the term and
+//! after `E17`; that for symbols at the name that needs the id.
 use crate::seq::Bytes;
 use crate::tokens::Token;
 

@@ -1,4 +1,8 @@
 //! What is kept of the answer to a check, to the question for a core and to that for a least value.
+//!
+//! The reply `unknown` to the question for a least value keeps the best model, the bound that was
+//! asked for last, and what each worker shows of it, where there is a model; the mode keeps the
+//! reason alone, as after a check, so values are refused then.
 use crate::reports::Report;
 use crate::seq::Seq;
 use crate::values::Interp;

@@ -1,4 +1,11 @@
 //! What a worker shows that ended without an answer: its units, or where a number left the range.
+//!
+//! The types of reports have the words about integers (pivots, numbers that left the range,
+//! branches), each with its definition; those of the search have them when a theory says them. A
+//! cancelled worker's end has no word in a report, since no `unknown` may rest on it.
+//!
+//! A report of want of memory is free in its branches too. Those of units and of ranges are rows
+//! over the atoms before each.
 use crate::clauses::{Atom, Clause};
 use crate::seq::Seq;
 use crate::terms::TermId;

@@ -1,4 +1,10 @@
 //! The settings of a run.
+//!
+//! `--units` reaches 2^64 - 1, while the setting may be any number below 2^127: an option of the
+//! language may set more. A limit below 0, which no words and no option give, counts as none.
+//!
+//! The number of workers is a parameter of what reports say; in replies it is that of the words of
+//! the command line, which no option changes.
 
 /// What the words of the command line set for a run.
 #[derive(Clone, Copy, Debug, PartialEq, Eq, Drop)]

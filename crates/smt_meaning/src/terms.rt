@@ -1,4 +1,7 @@
 //! The heads of terms: numerals, operators of the theories Core and Ints, symbols by their numbers.
+//!
+//! Operators have one numbering (`operator_number`), which the hash, the test for equal trees and
+//! the stored form of trees share.
 use crate::values::SymId;
 
 /// A term's place in the list of trees that its stack keeps, from 0.

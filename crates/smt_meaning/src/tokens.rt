@@ -1,5 +1,11 @@
 //! Tokens, and s-expressions as flat lists of bytes, kinds and ends (SMT-LIB 2.6, sections 3.1 and
 //! 3.2). Nothing here is walked by recursion.
+//!
+//! An s-expression lies in three flat lists (bytes, kinds, ends). One with more than 4,294,967,295
+//! bytes of symbols and literals is answered as want of memory.
+//!
+//! The text of an assertion is its list of tokens, which is what the code holds. The tree of it is
+//! read from the tokens; both ways are laws, so no definition needs to choose.
 ghost use Rattle.std.specs.Prelude.{◌≡◌, ◌+◌, ◌<◌, ◌≤◌, [], ◌∷◌, ◌++◌, Some, drop, length, slice_get, slice_index_or, slice_range, vec_len, OnOk, OnErr, IfOk};
 ghost use Rattle.std.specs.Vec.{vec_capacity};
 ghost use Rattle.smt_meaning.specs.declared.tokens.Token.{Token};

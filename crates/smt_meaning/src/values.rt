@@ -1,4 +1,12 @@
 //! Sorts, values, and interpretations as lists of finite tables.
+//!
+//! Interpretations are lists of tables, one for each declared symbol in the order of declaration. A
+//! constant's number is its place in that order.
+//!
+//! The value of a term with parameters is the one value function (`value_with`); the value of a
+//! term without is the case of no parameters. So Tarski's clauses stand once. In an interpretation
+//! a truth value where a number is asked for counts as 0, and a number where a truth value is asked
+//! for as false. Well-sorted terms never ask so.
 ghost use Rattle.std.specs.Prelude.{◌≡◌, IfOk};
 
 use crate::seq::Seq;

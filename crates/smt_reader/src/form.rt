@@ -1,4 +1,11 @@
 //! The form that a word has so far (SMT-LIB 2.6, section 3.1).
+//!
+//! Why a word is refused early: as soon as no byte that may follow can mend it, `1a` at the `a`,
+//! though the word may go on.
+//!
+//! A keyword may begin with a digit behind its colon, and symbols that begin with `@` or `.` are
+//! taken, though the standard keeps them for solvers. The names of commands and the standard's
+//! further reserved words are symbols.
 ghost use Rattle.std.specs.Prelude.{◌≡◌, ℕ, List, Some, None, if◌then◌else◌};
 ghost use Rattle.std.specs.Option.{is_some};
 ghost use Rattle.smt_reader.specs.Forms.{BeginsAs, GoesTo};

@@ -1,5 +1,14 @@
 //! The reader: bytes are fed in pieces, and s-expressions are given as soon as they are settled.
 //! What was read is forgotten, and so are white space and comments.
+//!
+//! Why a fault needs no field: the reader keeps none for a fault that it met, as the byte at which
+//! it stopped gives the fault again at each call, at once. After `finish` no more may be fed; that
+//! is a condition and no refusal, as is that fewer than 2^64 bytes are fed in all.
+//!
+//! Why white space goes at once: the reader keeps the bytes of the s-expression that it has begun,
+//! and drops them once it is read. White space and comments before it go as they come: what is
+//! unread then stands for what was there, since whatever follows, the same lexeme comes first at
+//! the same place. Of a comment that goes on one byte stays, its mark.
 ghost use Rattle.std.specs.Prelude.{◌≡◌, ◌≤◌, ◌<◌, ◌+◌, ◌^◌, ◌++◌, [], length, drop, vec_len, OnOk, OnErr, IfOk, false, true};
 ghost use Rattle.smt_reader.specs.Reader.{AnswersRightly, Leaves, Skips};
 

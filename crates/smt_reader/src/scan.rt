@@ -1,5 +1,9 @@
 //! A scan of the unread bytes, which goes on from the byte at which it stopped; so reading takes
 //! time in proportion to the input.
+//!
+//! Why: a call goes on from the byte at which the one before stopped, and scans none before it
+//! again; so reading takes time in proportion to the input, however it is cut (measured, no clause
+//! says it).
 ghost use Rattle.std.specs.Prelude.{◌≡◌, ◌≤◌, ◌+◌, ◌++◌, ◌∷◌, [], List, ℕ, length, ◌<◌, true, Some, OnOk, OnErr, IfOk, IsSome};
 ghost use Rattle.smt_meaning.specs.declared.tokens.Token.{Token as TokenValue};
 ghost use Rattle.smt_meaning.specs.Reading.{IsSExpr, Opens, shapes};

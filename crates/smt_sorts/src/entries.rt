@@ -1,4 +1,7 @@
 //! Declarations in order, found by their names.
+//!
+//! Why: a declaration that `:named` gave says so itself, since a name without arguments looks like
+//! a definition otherwise; `reset-assertions` and `get-assignment` ask for it.
 ghost use Rattle.std.specs.Prelude.{◌≡◌, ◌+◌, ◌^◌, ◌<◌, ◌≤◌, ◌++◌, ◌∷◌, [], map, take, drop, insert, filter, length, true, false, None, Some, OnOk, OnErr, IfSome, IfNone, All, AllPairs};
 ghost use Rattle.smt_sorts.specs.Names.{AreApart};
 ghost use Rattle.smt_sorts.specs.Listed.{is_of_kind, is_named, kind_of, first_that, name_hash, hash_of};

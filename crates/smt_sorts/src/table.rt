@@ -1,4 +1,19 @@
 //! The table of names.
+//!
+//! Why levels are numbers: the table of names keeps each declaration with the number of its level,
+//! so pushing levels takes no memory and can't fail, and popping them cuts a list. Names are filed
+//! by their hashes in the term store's index, without a secret, so a script can be written that
+//! slows its own look-ups. Sorts, functions, definitions and names share one counter of ids, which
+//! only `reset` starts anew.
+//!
+//! Why the order isn't that of declaration alone: where declarations are global, those of level 0
+//! stand before the names of the levels above, whenever they were made: the signature is in the
+//! order of levels, and within a level in that of declaration. Ids are given in the order of
+//! declaration. So a signature doesn't grow at its end alone; what was found by its id is found
+//! again. The table keeps its declarations in one list in that order, with an index of the first of
+//! them by names: a declaration that is put into the middle has what follows filed anew, and where
+//! memory for that is wanting, the rest is looked through one by one. So want of memory is answered
+//! for the list alone, and clearing to level 0 takes none.
 ghost use Rattle.std.specs.Prelude.{◌≡◌, ◌+◌, ◌^◌, ◌<◌, ◌↔◌, ◌++◌, ◌∷◌, [], length, OnOk, OnErr, IfOk, IfErr, IfSome, IfNone, None, Some, true, false};
 ghost use Rattle.smt_meaning.specs.Signature.{is_one_of, find_function, find_sort, function_with_id, reserved_functions, reserved_sorts, HasNoIdTwice};
 ghost use Rattle.smt_meaning.specs.Sorts.{most_symbols};

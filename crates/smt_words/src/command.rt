@@ -1,4 +1,15 @@
 //! The command as `clap` sees it.
+//!
+//! Why the words that `clap` knows by itself are off: the usage line names the words that are
+//! taken, and the one subcommand. `clap`'s own words for help and a version are off, its subcommand
+//! `help` too, so they are refused like any other.
+//!
+//! Why the definition of what the words mean stands beside the call that reads them: it speaks of
+//! `clap`'s terms, and the base crate stands on nothing.
+//!
+//! The numbers of `gen` are read by `clap`'s own parsers, as the options are. That both are there
+//! and in their ranges where `clap` takes the words is proved from its specification, which speaks
+//! of the matches of a subcommand as of a walk over the words.
 ghost use Rattle.std.specs.Prelude.{◌≡◌, false, IfOk};
 ghost use Rattle.clap.specs.Words.{app_of, rule_of};
 ghost use Rattle.smt_words.specs.Words.{generator, needed, option, program};

@@ -1,4 +1,10 @@
 //! The words of the command line, as the system gives them.
+//!
+//! Where the words of the command line can't be had for want of memory, the status is 5, as for any
+//! other want of memory; so it is where `clap` finds none, also at words that it would refuse.
+//! Nothing is read or written then. A word that isn't UTF-8 is refused (status 2): the standard
+//! library answers it by a kind of error of its own. Every other error of the command line counts
+//! as want of memory.
 ghost use Rattle.std.specs.Prelude.{◌≡◌};
 ghost use Rattle.smt_words.specs.Given.{AreCollected, AreWords, cause_of};
 

@@ -1,4 +1,9 @@
 //! For each variable the places of the rows that have it.
+//!
+//! Why: the lists of the rows that have a variable may end before the variables do, so that a new
+//! variable for a term takes no memory here. They hold each such row, and where memory was wanting
+//! others too: what a pivot adds to them isn't taken back then, so every reader of them passes over
+//! what isn't there.
 ghost use Rattle.std.specs.Prelude.{◌≡◌, ◌≢◌, ℕ, ◌+◌, ◌<◌, ◌≤◌, ◌⊎◌, true, false, [], ◌∷◌, ◌++◌, length, slice_index_or, Contains, IfSome, OnOk, IfErr};
 ghost use Rattle.tableau.specs.declared.failure.Failure.TheVariants.{Memory};
 ghost use Rattle.tableau.specs.declared.rows.Row.{Row};

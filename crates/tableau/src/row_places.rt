@@ -1,4 +1,7 @@
 //! Where the rows of basic variables stand.
+//!
+//! Why: the list of places of rows may end before the variables do, so that a new variable for a
+//! term takes no memory in the tableau.
 ghost use Rattle.std.specs.Prelude.{◌≡◌, ℕ, ◌+◌, ◌-◌, ◌^◌, ◌<◌, ◌≤◌, [], ◌∷◌, ◌++◌, length, slice_set, OnOk, OnErr, IfErr, Some, None};
 ghost use Rattle.tableau.specs.declared.failure.Failure.TheVariants.{Memory};
 ghost use Rattle.tableau.specs.Places.{placed};

@@ -1,4 +1,8 @@
 //! Rows with room for what a pivot makes of them.
+//!
+//! Why: a pivot is first tried on all rows that have the entering variable, each into its own spare
+//! buffer, and only then committed by swapping: so an error changes no row without undoing
+//! anything, and once the buffers are large enough nothing is allocated.
 ghost use Rattle.std.specs.Prelude.{◌≡◌, ℕ, ◌<◌, ◌≤◌, ◌≢◌, ◌⊎◌, pos, true, [], ◌∷◌, length, slice_index_or, Contains, IfSome, IfNone, OnOk, IfOk, IfErr, OnErr, false};
 ghost use Rattle.tableau.specs.Failing.{IsRange};
 ghost use Rattle.tableau.specs.Fitting.{scaled_fits};

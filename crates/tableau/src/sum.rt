@@ -1,4 +1,10 @@
 //! Sums of variables, written by variables that aren't basic.
+//!
+//! Why this order. Its terms are taken in order, each term's row (or the variable itself) times the
+//! coefficient, added to what is there so far; coefficients that are absent count as 0, whose steps
+//! always fit. Then its value: 0, and each entry times its variable's value, in ascending order. So
+//! the definition lists the very numbers that are formed here. A new row's variables are given by
+//! whoever has the map from terms to variables.
 ghost use Rattle.std.specs.Prelude.{◌≡◌, ◌≢◌, ℕ, ◌+◌, ◌-◌, ◌^◌, ◌<◌, ◌≤◌, pos, true, false, [], ◌∷◌, ◌++◌, length, OnOk, OnErr, IfOk, IfErr};
 ghost use Rattle.fraction128.specs.Number.{whole};
 ghost use Rattle.fraction128.specs.Whole.{InRange};

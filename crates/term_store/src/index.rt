@@ -1,4 +1,7 @@
 //! Places by their hashes.
+//!
+//! Why: a term store finds a node by the chain of its hash's bucket, the newest first, so that a
+//! cut undoes the newest nodes one by one and takes no memory.
 ghost use Rattle.std.specs.Prelude.{◌≡◌, ◌+◌, ◌-◌, ◌*◌, ◌^◌, ◌<◌, ◌≤◌, [], ◌∷◌, ◌++◌, length, max, take, replicate, OnOk, OnErr};
 ghost use Rattle.term_store.specs.Latest.{last_place, hashes_of, bucket_of, IsIndex, IsOnChain};
 

@@ -1,4 +1,8 @@
 //! Terms by number.
+//!
+//! Why a cut takes no memory: a node is found by the chain of its hash's bucket, the newest first,
+//! so the newest nodes are undone one by one. `intern` takes the head and the arguments, and want
+//! of memory is one of its two errors.
 ghost use Rattle.std.specs.Prelude.{◌≡◌, ◌<◌, ◌≤◌, ◌↔◌, ℕ, List, [], ◌∷◌, ◌++◌, length, take, map, slice_index_or, OnOk, OnErr, IfOk, IfSome, IfNone, All, IsTrue};
 ghost use Rattle.term_store.specs.Hash.{node_hash};
 ghost use Rattle.smt_meaning.specs.declared.nodes.Node.{Node as NodeOf};
