@@ -1,4 +1,7 @@
 //! The name that `:named` gives to the whole of a term (SMT-LIB 2.6, section 3.6.4).
+//!
+//! The name of an assertion is read from its text: the first name that is given to the whole of it,
+//! of nested annotations the innermost one first. Nothing is kept for it beside the text.
 ghost use Rattle.std.specs.Prelude.{◌≡◌, ◌<◌, Some, MatchOption, IsFalse};
 ghost use Rattle.std.specs.Option.{option_map, option_copied};
 ghost use Rattle.smt_meaning.specs.Sexp.{sexp};

@@ -1,4 +1,6 @@
 //! Laws of what follows from a stack, of linear forms, of normal bounds, of divisions and of places in lists of trees, each as the contract of a function that does nothing.
+//!
+//! Resolution takes one literal of each clause away, and leaves a second copy of it.
 ghost use Rattle.std.specs.Prelude.{ℕ, ℤ};
 ghost use Rattle.smt_meaning.specs.Term.{Tree};
 ghost use Rattle.smt_laws.specs.ClauseLaws.{DivisionAtomsByPlaces, DivisionClausesAreTrue, DivisionClausesByPlaces, DivisionFitsByPlaces, DivisionHoldsByPlaces, DivisionRowsForce, DivisionRowsHold, DivisorIsItsNumber, EmptyClauseShowsNoModel, LimitsHaveValues, LinearFormHasValue, NameStandsForTerm, NormalBoundHasValue, ResolventFollows, RowsAreOfTheTerm, StillFollowsAbove, StillFollowsAfterDeclared, StillFollowsAfterMore, StillFollowsAfterPop, StillFollowsAfterPush, StillFollowsWithTrees, TreeIsFoundAgain};

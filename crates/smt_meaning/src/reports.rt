@@ -6,6 +6,21 @@
 //!
 //! A report of want of memory is free in its branches too. Those of units and of ranges are rows
 //! over the atoms before each.
+//!
+//! Why "isn't forced" is said of every list of clauses of the kinds that are given, and not of one
+//! list of all of them: propagation from more clauses reaches at least as much, so both say the
+//! same, and this form needs no list of all node clauses of a stack. A unit's place in its list is
+//! said by what stands before it and behind it, so that one more unit is one more fact.
+//!
+//! Why a pivot isn't taken back by the next one: the pivots of a report go on from one basis: the
+//! first from the basis in which each variable of a sum that isn't a term alone is basic, each
+//! other from the one that the pivots before it in the list of units left, also where other units
+//! stand between. So two neighbours never are of one row. Where none stands between, each begins
+//! from the grid that the one before it left: variables keep their values and rows but for moves to
+//! bounds that were taken in, no bound is loosened, and variables may come after the others.
+//!
+//! A grid that shows a step out of the range has columns for leaves of the assertions and for sums
+//! of atoms of the check, or their negations, and the bound that waits is on an atom of the check.
 use crate::clauses::{Atom, Clause};
 use crate::seq::Seq;
 use crate::terms::TermId;
